@@ -159,7 +159,7 @@ module _ (arrays : Arrays) (cell : ℕ) where
 -- the first number that passes, or none if none does
 abbrev IsFirst : (ℕ → Bool) → ℕ → ℕ → Option ℕ → Type 0
 IsFirst test i k None = (c : ℕ) → i ≤ c → c < i + k → test c ≡ false
-IsFirst test i k (Some told) = (told < i + k) × (test told ≡ true) × ((c : ℕ) → i ≤ c → c < told → test c ≡ false)
+IsFirst test i k (Some reported) = (reported < i + k) × (test reported ≡ true) × ((c : ℕ) → i ≤ c → c < reported → test c ≡ false)
 
 here_or_above : (test : ℕ → Bool) (i c : ℕ) → test i ≡ false → i ≤ c → (i + 1 ≤ c → test c ≡ false) → test c ≡ false
 here_or_above test i c e l h = ⊎_elim (λ s. h (omega arith)) (λ s. subst (λ n. test n ≡ false) s e) (which i c l)
@@ -172,7 +172,7 @@ here_or_above test i c e l h = ⊎_elim (λ s. h (omega arith)) (λ s. subst (λ
 
 step : (test : ℕ → Bool) (i k : ℕ) (o : Option ℕ) → test i ≡ false → IsFirst test (i + 1) k o → IsFirst test i (suc k) o
 step test i k None e h = λ c l below. here_or_above test i c e l (λ above. h c above (omega arith))
-step test i k (Some told) e h = (omega (arith, h.0), h.1, λ c l below. here_or_above test i c e l (λ above. h.2 c above below))
+step test i k (Some reported) e h = (omega (arith, h.0), h.1, λ c l below. here_or_above test i c e l (λ above. h.2 c above below))
 
 first_or : (test : ℕ → Bool) (i k : ℕ) (b : Bool) → test i ≡ b → IsFirst test (i + 1) k (first_from test (i + 1) k) → IsFirst test i (suc k) (if b then Some i else first_from test (i + 1) k)
 first_or test i k true e h = (omega arith, e, λ c l below. absurd (omega arith))
@@ -182,11 +182,11 @@ first : (test : ℕ → Bool) (i k : ℕ) → IsFirst test i k (first_from test 
 first test i zero = λ c l below. absurd (omega arith)
 first test i (suc k) = first_or test i k (test i) refl (first test (i + 1) k)
 
-least : (arrays : Arrays) (cells : ℕ) (pieces : List Steps) (told : Option ℕ) → IsFirst (overlaps arrays false false pieces) 0 cells told → IsLeastClash arrays cells pieces told
+least : (arrays : Arrays) (cells : ℕ) (pieces : List Steps) (reported : Option ℕ) → IsFirst (overlaps arrays false false pieces) 0 cells reported → IsLeastClash arrays cells pieces reported
 least arrays cells pieces None h = λ cell l c. false≢true (sym (h cell (omega arith) (omega arith)) ∙ passes_of arrays cell pieces c)
-least arrays cells pieces (Some told) h = (
+least arrays cells pieces (Some reported) h = (
   omega (arith, h.0),
-  clash_of arrays told pieces h.1,
+  clash_of arrays reported pieces h.1,
   λ cell l c. false≢true (sym (h.2 cell (omega arith) l) ∙ passes_of arrays cell pieces c),
 )
 

@@ -63,8 +63,8 @@ ClashesAreTested = (arrays : Arrays) (pieces : List Steps) (cell : ℕ)
     → (overlaps arrays false false pieces cell ≡ true) ↔ IsClash arrays pieces cell
 
 -- The reported cell of an overlap is the least one on which two different pieces clash.
-abbrev pub LeastClashIsTold : Type 0
-LeastClashIsTold = (arrays : Arrays) (cells : ℕ) (pieces : List Steps)
+abbrev pub LeastClashIsReported : Type 0
+LeastClashIsReported = (arrays : Arrays) (cells : ℕ) (pieces : List Steps)
     → IsLeastClash arrays cells pieces (overlap arrays cells pieces)
 
 -- In a plan, the parent of each site comes before it, and the plan has as many parents as the program has sites.

@@ -58,6 +58,6 @@ pub record IsClash (arrays : Arrays) (pieces : List Steps) (cell : ℕ) : Type 0
 -- The reported cell is the least of so many cells on which two different pieces clash; none is reported if they clash on none.
 abbrev pub IsLeastClash : Arrays → ℕ → List Steps → Option ℕ → Type 0
 IsLeastClash arrays cells pieces None = (cell : ℕ) → cell < cells → ¬ IsClash arrays pieces cell
-IsLeastClash arrays cells pieces (Some told) =
-    (told < cells) × IsClash arrays pieces told
-    × ((cell : ℕ) → cell < told → ¬ IsClash arrays pieces cell)
+IsLeastClash arrays cells pieces (Some reported) =
+    (reported < cells) × IsClash arrays pieces reported
+    × ((cell : ℕ) → cell < reported → ¬ IsClash arrays pieces cell)

@@ -7,7 +7,7 @@
 //! The evaluator `run_one` of `array_eval` computes `final_store`, and the tests of `language_tests` run it on programs.
 #![tactic(auto)]
 
-ghost use Rattle.array_meaning.specs.Laws.{WritesDependOnReads, ArePiecesIndependent, AreBranchesIndependent, AreMembersIndependent, ApartIsTested, ClashesAreTested, LeastClashIsTold, PlansAreRight, SitesArePlanned, EnteredSitesAreCounted, EnteredDependsOnReads, BranchesEnterAlone, MembersEnterAlone, StayInsideParts, LaterPartsAreOutside};
+ghost use Rattle.array_meaning.specs.Laws.{WritesDependOnReads, ArePiecesIndependent, AreBranchesIndependent, AreMembersIndependent, ApartIsTested, ClashesAreTested, LeastClashIsReported, PlansAreRight, SitesArePlanned, EnteredSitesAreCounted, EnteredDependsOnReads, BranchesEnterAlone, MembersEnterAlone, StayInsideParts, LaterPartsAreOutside};
 
 /// What steps write depends only on what they read.
 pub fn writes_depend_on_reads()
@@ -41,8 +41,8 @@ pub fn clashes_are_tested()
 {}
 
 /// The reported cell of an overlap is the least one on which two different pieces clash.
-pub fn least_clash_is_told()
-    ensures { LeastClashIsTold }
+pub fn least_clash_is_reported()
+    ensures { LeastClashIsReported }
 {}
 
 /// In the plan of a program each parent comes before its site, and each site of the program has one.

@@ -1,11 +1,11 @@
 //! Forged journals: one for each refusal of the table, one that is incomplete, and some that skip a site that must be entered.
-use crate::told::{BRANCHES, NESTED, told};
+use crate::reported::{BRANCHES, NESTED, reported};
 use std::test::Fail;
 
 #[test]
 fn registrations_are_refused(rt: HostRuntime) -> Result<(), Fail> {
     let alloc = rt.alloc();
-    let line = told(
+    let line = reported(
         alloc,
         2,
         BRANCHES,
@@ -15,7 +15,7 @@ fn registrations_are_refused(rt: HostRuntime) -> Result<(), Fail> {
         line.as_slice(),
         b"illegal: entry 0, no such hart\n".as_slice()
     );
-    let line = told(
+    let line = reported(
         alloc,
         2,
         BRANCHES,
@@ -25,7 +25,7 @@ fn registrations_are_refused(rt: HostRuntime) -> Result<(), Fail> {
         line.as_slice(),
         b"illegal: entry 0, no such site\n".as_slice()
     );
-    let line = told(
+    let line = reported(
         alloc,
         2,
         NESTED,
@@ -35,7 +35,7 @@ fn registrations_are_refused(rt: HostRuntime) -> Result<(), Fail> {
         line.as_slice(),
         b"illegal: entry 0, owner is s0\n".as_slice()
     );
-    let line = told(
+    let line = reported(
         alloc,
         2,
         BRANCHES,
@@ -46,23 +46,23 @@ fn registrations_are_refused(rt: HostRuntime) -> Result<(), Fail> {
 }
 
 #[test]
-fn entering_and_asking_are_refused(rt: HostRuntime) -> Result<(), Fail> {
+fn entering_and_requesting_are_refused(rt: HostRuntime) -> Result<(), Fail> {
     let alloc = rt.alloc();
-    let line = told(
+    let line = reported(
         alloc,
         2,
         BRANCHES,
         b"a = 1 2 0 0\ntransfers 1\n0 h1 enter s1\n",
     )?;
     assert_eq!(rt; line.as_slice(), b"illegal: entry 0, not live\n".as_slice());
-    let line = told(
+    let line = reported(
         alloc,
         2,
         BRANCHES,
         b"a = 1 2 0 0\ntransfers 2\n0 h0 register s1 under s0\n1 h1 enter s1\n",
     )?;
     assert_eq!(rt; line.as_slice(), b"illegal: entry 1, no wish\n".as_slice());
-    let line = told(
+    let line = reported(
         alloc,
         2,
         BRANCHES,
@@ -72,7 +72,7 @@ fn entering_and_asking_are_refused(rt: HostRuntime) -> Result<(), Fail> {
         line.as_slice(),
         b"illegal: entry 2, asked 1 already\n".as_slice()
     );
-    let line = told(
+    let line = reported(
         alloc,
         2,
         BRANCHES,
@@ -88,7 +88,7 @@ fn entering_and_asking_are_refused(rt: HostRuntime) -> Result<(), Fail> {
 #[test]
 fn leaving_is_refused(rt: HostRuntime) -> Result<(), Fail> {
     let alloc = rt.alloc();
-    let line = told(
+    let line = reported(
         alloc,
         2,
         BRANCHES,
@@ -98,14 +98,14 @@ fn leaving_is_refused(rt: HostRuntime) -> Result<(), Fail> {
         line.as_slice(),
         b"illegal: entry 3, home is h0\n".as_slice()
     );
-    let line = told(
+    let line = reported(
         alloc,
         2,
         BRANCHES,
         b"a = 1 2 0 0\ntransfers 2\n0 h0 register s1 under s0\n1 h0 yield s1\n",
     )?;
     assert_eq!(rt; line.as_slice(), b"illegal: entry 1, is home\n".as_slice());
-    let line = told(
+    let line = reported(
         alloc,
         2,
         BRANCHES,
@@ -115,7 +115,7 @@ fn leaving_is_refused(rt: HostRuntime) -> Result<(), Fail> {
         line.as_slice(),
         b"illegal: entry 3, h1 is inside\n".as_slice()
     );
-    let line = told(
+    let line = reported(
         alloc,
         2,
         NESTED,
@@ -125,7 +125,7 @@ fn leaving_is_refused(rt: HostRuntime) -> Result<(), Fail> {
         line.as_slice(),
         b"illegal: entry 1, s2 is left\n".as_slice()
     );
-    let line = told(
+    let line = reported(
         alloc,
         2,
         NESTED,
@@ -139,9 +139,9 @@ fn leaving_is_refused(rt: HostRuntime) -> Result<(), Fail> {
 }
 
 #[test]
-fn skipped_sites_are_told(rt: HostRuntime) -> Result<(), Fail> {
+fn skipped_sites_are_reported(rt: HostRuntime) -> Result<(), Fail> {
     let alloc = rt.alloc();
-    let line = told(
+    let line = reported(
         alloc,
         2,
         BRANCHES,
@@ -151,7 +151,7 @@ fn skipped_sites_are_told(rt: HostRuntime) -> Result<(), Fail> {
         line.as_slice(),
         b"illegal: entry 1, s1 is skipped\n".as_slice()
     );
-    let line = told(
+    let line = reported(
         alloc,
         2,
         NESTED,
@@ -161,7 +161,7 @@ fn skipped_sites_are_told(rt: HostRuntime) -> Result<(), Fail> {
         line.as_slice(),
         b"illegal: entry 1, s1 is skipped\n".as_slice()
     );
-    let line = told(
+    let line = reported(
         alloc,
         2,
         NESTED,

@@ -8,4 +8,4 @@ mod forged;
 #[cfg(test)]
 mod longest;
 #[cfg(test)]
-mod told;
+mod reported;

@@ -1,5 +1,5 @@
 //! The longest journals.
-use crate::told::told;
+use crate::reported::reported;
 use journal_text::write_entries;
 use std::alloc::{AllocError, Global};
 use std::test::Fail;
@@ -41,7 +41,7 @@ fn the_longest_journal_of_four_harts_is_legal(rt: HostRuntime) -> Result<(), Fai
     let plan = Plan::new(alloc, 4, &[0; 4095])?;
     assert_eq!(rt; list.len(), 45_045);
     let output = write_entries(alloc, &plan, &list)?;
-    let line = told(alloc, 4, "for k in 0..4095 { par { { } } }", &output)?;
+    let line = reported(alloc, 4, "for k in 0..4095 { par { { } } }", &output)?;
     assert_eq!(rt; line.as_slice(), b"legal 45045\n".as_slice());
     Ok(())
 }
@@ -53,7 +53,7 @@ fn the_longest_journal_of_sixteen_harts_is_legal(rt: HostRuntime) -> Result<(), 
     let plan = Plan::new(alloc, 16, &[0; 1394])?;
     assert_eq!(rt; list.len(), 65_518);
     let output = write_entries(alloc, &plan, &list)?;
-    let line = told(alloc, 16, "for k in 0..1394 { par { { } } }", &output)?;
+    let line = reported(alloc, 16, "for k in 0..1394 { par { { } } }", &output)?;
     assert_eq!(rt; line.as_slice(), b"legal 65518\n".as_slice());
     Ok(())
 }

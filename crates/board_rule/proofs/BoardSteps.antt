@@ -165,10 +165,10 @@ pub board_step : (lay : Layout) (p : Plan) (s : St) (k : Stands lay p s) (id : �
     → DoesRight lay p (k.journal ++ e ∷ []) (effect_of p k.table e) (record (made_entry e o place v) { doing = d; marks = m }) d
     → KnowsSites p (effect_of p k.table e) v.hart m k.closing (guests lay p k.table s.views)
     → Appends lay p s k e (after_step s 0 ((slice_index s.words 0 + amount) % 2 ^ 64) id (record (made_entry e o place v) { doing = d; marks = m }))
-board_step lay p s k id v e d m o amount place at seat undrawn by allowed owned adds told elsewhere word on live here_same arrives does knows =
+board_step lay p s k id v e d m o amount place at seat undrawn by allowed owned adds reported elsewhere word on live here_same arrives does knows =
     let w : View = record (made_entry e o place v) { doing = d; marks = m } in
     let n : ℕ = (slice_index s.words 0 + amount) % 2 ^ 64 in
-    let placed : place ≡ length k.journal = told ∙ length_of lay p k.plan k.few k.journal k.table k.legal (slice_index s.words 0) k.board in
+    let placed : place ≡ length k.journal = reported ∙ length_of lay p k.plan k.few k.journal k.table k.legal (slice_index s.words 0) k.board in
     let x : ℕ = site_of e in
     let t : TableState = k.table in let u : TableState = effect_of p t e in
     let es : List Entry = k.journal in

@@ -14,7 +14,7 @@ pub mod Moves
 pub mod Opens
 pub mod Joins
 pub mod Follows
-pub mod Tells
+pub mod Reports
 pub mod Ends
 pub mod Lasts
 pub mod Bounds

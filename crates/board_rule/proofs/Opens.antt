@@ -103,8 +103,8 @@ opens lay p plan few = record {
   spent = λ j v is not. absurd (not (subst IsSeat (first_is (first_view p) v j is) (let z = plan.some_hart in omega arith)));
 }
 
-pub made_tells : (m h : ℕ) → one_if (eqb m h) + one_if (nat_le (m + 1) h) ≡ one_if (nat_le m h)
-made_tells m h = grind (arith, nat_tests)
+pub made_reports : (m h : ℕ) → one_if (eqb m h) + one_if (nat_le (m + 1) h) ≡ one_if (nat_le m h)
+made_reports m h = grind (arith, nat_tests)
 
 pub split_keeps : (lay : Layout) (p : Plan) (s : St) (k : Stands lay p s) (id : ℕ) (v : View) → get_elem? s.views id ≡ some v → v.hart ≡ 0 → v.plan ≡ p → v.made < p.harts → v.doing ≡ Idle
     → Keeps lay p s k record { words = s.words; homes = s.homes; views = set s.views id (split_left v) ++ split_right v ∷ [] }
@@ -144,7 +144,7 @@ split_keeps lay p s k id v at zeroth is_plan below idle =
         places = λ i e is. place_at e _ _ _ _ refl (none (draws i) refl refl) (k.places i e is);
         beyond = λ i c. let b = k.beyond i c in (b.0, none (draws i) refl refl ∙ b.1);
         sites = λ x site. rw (load_same x) (k.sites x site);
-        seats = λ h c. let old = k.seats h c in let sum = total-snoc (numbered h) (set s.views id l) r in let same = total-same (numbered h) s.views id v l at refl in let tell = made_tells v.made h in
+        seats = λ h c. let old = k.seats h c in let sum = total-snoc (numbered h) (set s.views id l) r in let same = total-same (numbered h) s.views id v l at refl in let report = made_reports v.made h in
             let m : one_if (nat_le (k.made + 1) h) ≡ one_if (nat_le (v.made + 1) h) = ap (λ (q : ℕ). one_if (nat_le (q + 1) h)) (sym made) in let m' : one_if (nat_le k.made h) ≡ one_if (nat_le v.made h) = ap (λ (q : ℕ). one_if (nat_le q h)) (sym made) in omega arith;
         first = none (numbered 0) refl (let one = one_seat lay p s k id v at seat in let above : v.hart < v.made = omega (arith, one.2, made) in let apart : v.made ≢ 0 = λ z. omega arith in ap one_if (ne_eqb v.made 0 apart)) ∙ k.first;
         unmade = λ h c. k.unmade h (omega arith);

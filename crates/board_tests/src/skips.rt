@@ -82,7 +82,12 @@ fn has_come_and_gone(board: &WordBoard, seat: &mut HartSeat) -> bool
 
 // Whether the entries are complete if only site 3 is meant to be entered. If they aren't, whether the fault is the least site
 // that is registered and not meant, or meant and not registered.
-fn is_told(alloc: Global, plan: &Plan, entries: &[Entry], meant: [bool; 3]) -> Result<bool, Fail>
+fn is_reported(
+    alloc: Global,
+    plan: &Plan,
+    entries: &[Entry],
+    meant: [bool; 3],
+) -> Result<bool, Fail>
     requires { site_count plan.now ≡ 3 }
 {
     let site = if meant[0] {
@@ -118,7 +123,7 @@ fn a_site_with_one_below_is_skipped(rt: HostRuntime) -> Result<(), Fail> {
     assert!(rt; closed.entries() == ROW.as_slice());
     for bits in 0..8_u8 {
         let meant = [bits % 2 == 1, bits / 2 % 2 == 1, bits / 4 == 1];
-        assert!(rt; is_told(rt.alloc(), &plan, closed.entries(), meant)?);
+        assert!(rt; is_reported(rt.alloc(), &plan, closed.entries(), meant)?);
     }
     Ok(())
 }

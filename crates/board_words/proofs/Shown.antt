@@ -17,7 +17,7 @@ use Rattle.transfer_table.specs.declared.entry.Entry.TheVariants.{Register, Requ
 use Rattle.transfer_table.proofs.Positions.{legal_position}
 use Rattle.transfer_table.proofs.Effects.{row_after, row-effect_same, row-effect_other}
 use Rattle.transfer_table.proofs.Stages.{legal_blank, live_home, covered_new, gone_lasts}
-use Rattle.transfer_table.proofs.Balance.{registers-other, registers-here, legal_wishes, rows_tell}
+use Rattle.transfer_table.proofs.Balance.{registers-other, registers-here, legal_wishes, rows_report}
 use Rattle.transfer_table.proofs.Begins.{legal_begins, legal_askless, skips-other, skips-here}
 use Rattle.transfer_table.proofs.Bounds.{legal_owner}
 use Rattle.transfer_table.proofs.Within.{strictly_within, within-step, within_site}
@@ -87,7 +87,7 @@ module _ (p : Plan) (plan : IsPlan p) (es : List Entry) (t : TableState) (leads 
     where
       home_none : (h : Bool) → is_some (row t x).home ≡ h → registers x es + skips x es ≡ 0 → (row t x).wishes ≡ 0
       home_none false e none = (legal_askless p plan es t leads x site e).0
-      home_none true e none = absurd (let one : registers x es ≡ 1 = (rows_tell p plan es t leads x site).came ∙ ap (λ (b : Bool). if b then 1 else 0) e in omega arith)
+      home_none true e none = absurd (let one : registers x es ≡ 1 = (rows_report p plan es t leads x site).came ∙ ap (λ (b : Bool). if b then 1 else 0) e in omega arith)
 
   -- An entry of another site leaves what is shown, also if it skips a site around this one.
   pub shown-other : (e : Entry) → IsAllowed p t e → (y : ℕ) → IsSite p y → y ≢ site_of e → shown (es ++ e ∷ []) (effect_of p t e) y ≡ shown es t y

@@ -36,9 +36,9 @@ fn bounds(alloc: Global, expr: &str, least: i64, greatest: i64) -> Result<Option
 type Case<'c> = (&'c str, (i64, i64), Option<(i64, i64)>);
 
 // Whether exactly these bounds are found.
-fn are_told(rt: &impl Abort, alloc: Global, cases: &[Case<'_>]) -> Result<(), Fail> {
-    for (expr, (low, high), told) in cases {
-        let wanted = told.map(|(least, greatest)| Interval { least, greatest });
+fn are_noted(rt: &impl Abort, alloc: Global, cases: &[Case<'_>]) -> Result<(), Fail> {
+    for (expr, (low, high), noted) in cases {
+        let wanted = noted.map(|(least, greatest)| Interval { least, greatest });
         assert!(rt; bounds(alloc, expr, *low, *high)? == wanted, "{expr}");
     }
     Ok(())
@@ -46,7 +46,7 @@ fn are_told(rt: &impl Abort, alloc: Global, cases: &[Case<'_>]) -> Result<(), Fa
 
 #[test]
 fn numbers_and_variables_have_their_own(rt: HostRuntime) -> Result<(), Fail> {
-    are_told(
+    are_noted(
         &rt,
         rt.alloc(),
         &[
@@ -61,7 +61,7 @@ fn numbers_and_variables_have_their_own(rt: HostRuntime) -> Result<(), Fail> {
 
 #[test]
 fn sums_and_differences_take_both_ends(rt: HostRuntime) -> Result<(), Fail> {
-    are_told(
+    are_noted(
         &rt,
         rt.alloc(),
         &[
@@ -75,7 +75,7 @@ fn sums_and_differences_take_both_ends(rt: HostRuntime) -> Result<(), Fail> {
 
 #[test]
 fn products_take_all_four_corners(rt: HostRuntime) -> Result<(), Fail> {
-    are_told(
+    are_noted(
         &rt,
         rt.alloc(),
         &[
@@ -88,8 +88,8 @@ fn products_take_all_four_corners(rt: HostRuntime) -> Result<(), Fail> {
 }
 
 #[test]
-fn quotients_are_told_by_constants(rt: HostRuntime) -> Result<(), Fail> {
-    are_told(
+fn quotients_are_noted_by_constants(rt: HostRuntime) -> Result<(), Fail> {
+    are_noted(
         &rt,
         rt.alloc(),
         &[
@@ -104,7 +104,7 @@ fn quotients_are_told_by_constants(rt: HostRuntime) -> Result<(), Fail> {
 
 #[test]
 fn remainders_have_the_sign_of_the_left_side(rt: HostRuntime) -> Result<(), Fail> {
-    are_told(
+    are_noted(
         &rt,
         rt.alloc(),
         &[
@@ -120,7 +120,7 @@ fn remainders_have_the_sign_of_the_left_side(rt: HostRuntime) -> Result<(), Fail
 
 #[test]
 fn comparisons_give_one_or_nothing(rt: HostRuntime) -> Result<(), Fail> {
-    are_told(
+    are_noted(
         &rt,
         rt.alloc(),
         &[
@@ -133,10 +133,10 @@ fn comparisons_give_one_or_nothing(rt: HostRuntime) -> Result<(), Fail> {
 }
 
 #[test]
-fn what_may_wrap_is_not_told(rt: HostRuntime) -> Result<(), Fail> {
+fn what_may_wrap_is_not_noted(rt: HostRuntime) -> Result<(), Fail> {
     let most = i64::MAX;
     let least = i64::MIN;
-    are_told(
+    are_noted(
         &rt,
         rt.alloc(),
         &[

@@ -20,7 +20,7 @@ fn is_found(
 }
 
 #[test]
-fn the_first_index_outside_is_told(rt: HostRuntime) -> Result<(), Fail> {
+fn the_first_index_outside_is_noted(rt: HostRuntime) -> Result<(), Fail> {
     let text = "array a[100];
         for i in 0..1000 { a[i / 10] = 0; }
         for i in 0..1001 { a[i / 10] = 1; }
@@ -43,7 +43,7 @@ fn what_the_text_leaves_open_may_be_right(rt: HostRuntime) -> Result<(), Fail> {
 }
 
 #[test]
-fn the_first_phase_that_overlaps_is_told(rt: HostRuntime) -> Result<(), Fail> {
+fn the_first_phase_that_overlaps_is_noted(rt: HostRuntime) -> Result<(), Fail> {
     let text = "array a[100]; array b[100];
         team i in 0..1000 by 4 { a[i / 10] = i; } barrier { b[i % 99 + 1] = a[0]; }
         par { { for i in 0..100 { a[i] = 1; } } { for i in 0..100 { a[i] = 2; } } }";

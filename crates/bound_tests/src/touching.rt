@@ -10,27 +10,27 @@ use std::process::Abort;
 use std::test::Fail;
 use touch_bounds::{
     Ranges, Stretch, Touch, UNTOUCHED, branches_are_apart, loop_is_settled, members_are_apart,
-    tell_block,
+    note_block,
 };
 
 // The recorded stretches of each array of a program, in order of declaration, if all are known.
-fn told(rt: &impl Abort, alloc: Global, text: &str) -> Result<Option<Vec<Touch>>, Fail> {
+fn noted(rt: &impl Abort, alloc: Global, text: &str) -> Result<Option<Vec<Touch>>, Fail> {
     let program = parsed(alloc, text)?;
     assert!(rt; are_sized(&program.arrays));
     let layout = Layout::new(alloc, &program.arrays)?;
     let outermost = Scope::Outermost;
     let ranges = Ranges::Fixed(&outermost);
     let mut touches = vec![in alloc; UNTOUCHED; layout.count()]?;
-    let all = tell_block(&layout, &program.body, &ranges, &mut touches);
+    let all = note_block(&layout, &program.body, &ranges, &mut touches);
     Ok(if all { Some(touches) } else { None })
 }
 
 // Whether each text has exactly these recorded stretches.
-fn are_told(rt: &impl Abort, alloc: Global, cases: &[(&str, &[Touch])]) -> Result<(), Fail> {
+fn are_noted(rt: &impl Abort, alloc: Global, cases: &[(&str, &[Touch])]) -> Result<(), Fail> {
     for (text, touches) in cases {
-        let told = told(rt, alloc, text)?;
+        let noted = noted(rt, alloc, text)?;
         assert!(rt;
-            told.is_some_and(|told| told.as_slice() == *touches),
+            noted.is_some_and(|noted| noted.as_slice() == *touches),
             "{text}"
         );
     }
@@ -38,9 +38,9 @@ fn are_told(rt: &impl Abort, alloc: Global, cases: &[(&str, &[Touch])]) -> Resul
 }
 
 // Whether all stretches of each text are known.
-fn can_be_told(rt: &impl Abort, alloc: Global, cases: &[(&str, bool)]) -> Result<(), Fail> {
-    for (text, told_of) in cases {
-        assert!(rt; told(rt, alloc, text)?.is_some() == *told_of, "{text}");
+fn can_be_noted(rt: &impl Abort, alloc: Global, cases: &[(&str, bool)]) -> Result<(), Fail> {
+    for (text, noted_of) in cases {
+        assert!(rt; noted(rt, alloc, text)?.is_some() == *noted_of, "{text}");
     }
     Ok(())
 }
@@ -65,7 +65,7 @@ fn loops_touch_what_their_turns_do(rt: HostRuntime) -> Result<(), Fail> {
     let nested = "array a[10]; for i in 0..3 { for j in 0..2 { a[3 * i + j] = i; } }";
     let empty = "array a[10]; for i in 5..5 { a[99] = a[i]; }";
     let siblings = "array a[10]; for i in 0..2 { a[i] = 0; } for i in 6..8 { a[i] = 0; }";
-    are_told(
+    are_noted(
         &rt,
         rt.alloc(),
         &[
@@ -83,7 +83,7 @@ fn both_sides_count_and_all_that_they_read(rt: HostRuntime) -> Result<(), Fail> 
     let dynamic = "array a[3]; array b[9]; b[a[2]] = 1;";
     let constructs = "array a[8];
         par { { a[1] = 0; } { team i in 2..6 by 2 { a[i] = 1; } barrier { a[i + 1] = 2; } } }";
-    are_told(
+    are_noted(
         &rt,
         rt.alloc(),
         &[
@@ -95,8 +95,8 @@ fn both_sides_count_and_all_that_they_read(rt: HostRuntime) -> Result<(), Fail> 
 }
 
 #[test]
-fn an_index_that_may_be_outside_is_not_told(rt: HostRuntime) -> Result<(), Fail> {
-    can_be_told(
+fn an_index_that_may_be_outside_is_not_noted(rt: HostRuntime) -> Result<(), Fail> {
+    can_be_noted(
         &rt,
         rt.alloc(),
         &[

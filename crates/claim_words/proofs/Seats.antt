@@ -8,10 +8,10 @@ use Rattle.claim_words.specs.declared.sight.Sight.{Sight}
 use Rattle.claim_words.specs.Claims.{weigh, is_claim, is_row, claims, pasts, past_word, once, Keeps, ClaimsStand, fresh, joined}
 use Rattle.claim_words.specs.declared.seat.ClaimSeat.{ClaimSeat}
 use Rattle.claim_words.specs.declared.table.ClaimTable.{ClaimTable}
-use Rattle.claim_words.specs.Seats.{kin, sight, IsOf, AreOf, parts_of, claims_of, reads_past}
+use Rattle.claim_words.specs.Seats.{identity, sight, IsOf, AreOf, parts_of, claims_of, reads_past}
 use Rattle.claim_words.proofs.Sums.{weigh-append, total_set, each_set, split_lt, total_snoc, each_snoc, total_whole}
 
-pub parts-snoc : (xs : List ClaimSeat) (s : ClaimSeat) → parts_of (map kin (xs ++ s ∷ [])) ≡ (sight s).parts + parts_of (map kin xs)
+pub parts-snoc : (xs : List ClaimSeat) (s : ClaimSeat) → parts_of (map identity (xs ++ s ∷ [])) ≡ (sight s).parts + parts_of (map identity xs)
 parts-snoc [] s = refl
 parts-snoc (x ∷ xs) s = let rest = parts-snoc xs s in omega (arith, rest)
 
@@ -23,11 +23,11 @@ pub reads-snoc : (words : List ℕ) (xs : List ClaimSeat) (s : ClaimSeat) → re
 reads-snoc words [] s = refl
 reads-snoc words (x ∷ xs) s = let rest = reads-snoc words xs s in omega (arith, rest)
 
-pub of-snoc : (t : ClaimTable) (xs : List ClaimSeat) (s : ClaimSeat) → AreOf t (map kin (xs ++ s ∷ [])) → IsOf t (kin s) × AreOf t (map kin xs)
+pub of-snoc : (t : ClaimTable) (xs : List ClaimSeat) (s : ClaimSeat) → AreOf t (map identity (xs ++ s ∷ [])) → IsOf t (identity s) × AreOf t (map identity xs)
 of-snoc t [] s are = (are.0, tt)
 of-snoc t (x ∷ xs) s are = let rest = of-snoc t xs s are.1 in (rest.0, (are.0, rest.1))
 
-pub snoc-of : (t : ClaimTable) (xs : List ClaimSeat) (s : ClaimSeat) → AreOf t (map kin xs) → IsOf t (kin s) → AreOf t (map kin (xs ++ s ∷ []))
+pub snoc-of : (t : ClaimTable) (xs : List ClaimSeat) (s : ClaimSeat) → AreOf t (map identity xs) → IsOf t (identity s) → AreOf t (map identity (xs ++ s ∷ []))
 snoc-of t [] s are is = (is, tt)
 snoc-of t (x ∷ xs) s are is = (are.0, snoc-of t xs s are.1 is)
 
@@ -53,14 +53,14 @@ module _ (counts : List ℕ) where
           few = λ row. omega arith;
           fresh = λ row is. absurd (omega (arith, is));
           over = λ row some_past. absurd (omega (arith, some_past));
-          told = λ _. mine.told (omega (arith, more));
+          reported = λ _. mine.reported (omega (arith, more));
           seen = refl;
         }) (each_set (Keeps counts s.words) s.views id l (record {
           spent = λ none. absurd (omega (arith, none, more));
           few = λ row. (let none = ap (λ (xs : List ℕ). weigh (is_row row) xs) clean in omega (arith, none));
           fresh = mine.fresh;
           over = mine.over;
-          told = λ _. mine.told (omega (arith, more));
+          reported = λ _. mine.reported (omega (arith, more));
           seen = mine.seen;
         }) h.each);
         rows = h.rows;
@@ -95,7 +95,7 @@ module _ (counts : List ℕ) where
           few = λ row. omega arith;
           fresh = λ row is. absurd (omega (arith, is));
           over = λ row some_past. absurd (omega (arith, some_past));
-          told = λ none. absurd (omega (arith, none));
+          reported = λ none. absurd (omega (arith, none));
           seen = refl;
         }) (each_set (Keeps counts s.words) s.views id both (record {
           spent = λ none. absurd (omega (arith, none, part));
@@ -107,7 +107,7 @@ module _ (counts : List ℕ) where
                 | inl x ↦ mine.over row x.0
                 | inr x ↦ (let none = x.0 in theirs.over row (omega (arith, c, none, some_past)))
               ];
-          told = λ _. mine.told part;
+          reported = λ _. mine.reported part;
           seen = (let a = mine.seen in let b = theirs.seen in let c = weigh-append (past_word s.words) v.looks w.looks in omega (arith, a, b, c));
         }) h.each);
         rows = h.rows;

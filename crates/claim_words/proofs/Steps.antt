@@ -16,7 +16,7 @@ module _ (counts : List ℕ) where
       let n = slice_index s.words row in
       let w : Sight = looked v row n in
       let mine = h.each id v at in
-      let told = mine.told part in
+      let reported = mine.reported part in
       let kept : Keeps counts s.words w = record {
         spent = λ none. absurd (omega (arith, none, part));
         few = mine.few;
@@ -25,7 +25,7 @@ module _ (counts : List ℕ) where
               let same : suc row ≡ suc r = sym (ap (λ (b : Bool). if b then suc row else 0) low.1) ∙ is in
               let row_is : row ≡ r = omega (arith, same) in
               let over = mine.over r in
-              let below : slice_index s.words r < slice_index counts r = subst (λ (k : ℕ). slice_index s.words k < slice_index counts k) row_is (subst (λ (l : List ℕ). n < slice_index l row) told low.0) in
+              let below : slice_index s.words r < slice_index counts r = subst (λ (k : ℕ). slice_index s.words k < slice_index counts k) row_is (subst (λ (l : List ℕ). n < slice_index l row) reported low.0) in
               elim (split_lt 0 (pasts r v)) [
                 | inl some_past ↦ absurd (omega (arith, over some_past.0, below))
                 | inr none ↦ omega (arith, none.0)
@@ -33,7 +33,7 @@ module _ (counts : List ℕ) where
           | inr high ↦ absurd (let zero_is : 0 ≡ suc r = sym (ap (λ (b : Bool). if b then suc row else 0) high.1) ∙ is in omega (arith, zero_is))
         ];
         over = mine.over;
-        told = mine.told;
+        reported = mine.reported;
         seen = (let a = weigh-append (past_word s.words) v.looks (look row kind.Look n ∷ []) in let b = past_none s.words (look row kind.Look n) (omega arith) in let m = mine.seen in omega (arith, a, b, m));
       } in
       let all : ClaimsStand counts (record { words = s.words; homes = s.homes; views = set s.views id w }) = record {
@@ -81,7 +81,7 @@ module _ (counts : List ℕ) where
       few = k.few;
       fresh = k.fresh;
       over = λ r some_past. (let a = k.over r some_past in let b = rises r in omega (arith, a, b));
-      told = k.told;
+      reported = k.reported;
       seen = (let m = k.seen in let l = weigh_le (past_word (set s.words row (slice_index s.words row + 1))) (past_word s.words) (λ x. past_le s.words (set s.words row (slice_index s.words row + 1)) x (rises x.row)) u.looks in omega (arith, m, l));
     }
 
@@ -124,7 +124,7 @@ module _ (counts : List ℕ) where
             few = mine.few;
             fresh = λ r is. absurd (omega (arith, is));
             over = mine.over;
-            told = mine.told;
+            reported = mine.reported;
             seen = (let a = weigh-append (past_word (set s.words row (k + 1))) v.looks (look row kind.Draw k ∷ []) in let b = past_none (set s.words row (k + 1)) (look row kind.Draw k) (rises row) in let m = mine.seen in omega (arith, a, b, m));
           }) stay;
           rows = length-set s.words row (k + 1) ∙ h.rows;
@@ -183,7 +183,7 @@ module _ (counts : List ℕ) where
                   | inl x ↦ (let e = x.1 in let c : slice_index counts r ≤ slice_index s.words row = subst (λ (q : ℕ). slice_index counts q ≤ slice_index s.words row) (sym x.0) high in omega (arith, e, c))
                   | inr x ↦ (let here = row_else r row x.0 in mine.over r (omega (arith, a, here, some_past)))
                 ];
-            told = mine.told;
+            reported = mine.reported;
             seen = (let a = weigh-append (past_word (set s.words row (k + 1))) v.looks (look row kind.Draw k ∷ []) in let b = past_none (set s.words row (k + 1)) (look row kind.Draw k) (rises row) in let m = mine.seen in omega (arith, a, b, m));
           }) stay;
           rows = length-set s.words row (k + 1) ∙ h.rows;
@@ -201,15 +201,15 @@ module _ (counts : List ℕ) where
       → Allows (ClaimsStand counts) slots id (v, held) row (λ n. (n + 1) % 2 ^ 64) (λ n after. after ≡ (drawn v row n, held))
   draws slots id row v held part there try s h homes at small =
       let k = slice_index s.words row in
-      let told = (h.each id v at).told part in
+      let reported = (h.each id v at).reported part in
       let wraps = no_wrap id row v s part there try h at in
       elim (split_lt k (slice_index v.counts row)) [
         | inl low ↦
             let same : taken v row k ≡ drawn v row k = sym (ap (λ (b : Bool). drawn_by b v row k) low.1) in
-            let all = takes_one id row v s part there try h at (subst (λ (l : List ℕ). k < slice_index l row) told low.0) in
+            let all = takes_one id row v s part there try h at (subst (λ (l : List ℕ). k < slice_index l row) reported low.0) in
             (taken v row k, keeps, tt, subst (λ (q : ℕ). ClaimsStand counts (record { words = set s.words row q; homes = s.homes; views = set s.views id (taken v row k) })) (sym wraps) all, (λ i. (same i, held)))
         | inr high ↦
             let same : passed v row k ≡ drawn v row k = sym (ap (λ (b : Bool). drawn_by b v row k) high.1) in
-            let all = goes_past id row v s part there try h at (subst (λ (l : List ℕ). slice_index l row ≤ k) told high.0) in
+            let all = goes_past id row v s part there try h at (subst (λ (l : List ℕ). slice_index l row ≤ k) reported high.0) in
             (passed v row k, keeps, tt, subst (λ (q : ℕ). ClaimsStand counts (record { words = set s.words row q; homes = s.homes; views = set s.views id (passed v row k) })) (sym wraps) all, (λ i. (same i, held)))
       ]

@@ -48,7 +48,7 @@ pub record Keeps (counts words : List ℕ) (v : Sight) : Type 0 where
   pub few : (r : ℕ) → pasts r v ≤ v.parts
   pub fresh : (r : ℕ) → v.trying ≡ suc r → pasts r v ≡ 0
   pub over : (r : ℕ) → 0 < pasts r v → slice_index counts r ≤ slice_index words r
-  pub told : 0 < v.parts → v.counts ≡ counts
+  pub reported : 0 < v.parts → v.counts ≡ counts
   pub seen : weigh (past_word words) v.looks ≡ 0
 
 -- F holds of each seat's sight

@@ -14,31 +14,31 @@ abbrev pub sight : ClaimSeat → Sight
 sight s = s.seat.me.0
 
 -- what no claim changes: the seat's table, the members of its counters, and its parts
-pub record SeatKin : Type 0 where
+pub record SeatIdentity : Type 0 where
   pub table : TableId
   pub counts : List ℕ
   pub parts : ℕ
 
 -- the identity of a seat
-abbrev pub kin : ClaimSeat → SeatKin
-kin s = record { table = s.seat.table_id; counts = (sight s).counts; parts = (sight s).parts }
+abbrev pub identity : ClaimSeat → SeatIdentity
+identity s = record { table = s.seat.table_id; counts = (sight s).counts; parts = (sight s).parts }
 
 -- the seat is one of the table
-abbrev pub IsOf : ClaimTable → SeatKin → Type 0
+abbrev pub IsOf : ClaimTable → SeatIdentity → Type 0
 IsOf t k = (k.table ≡ t.table.shared.table_id) × (k.counts ≡ t.counts.items)
 
 -- the seats are of the table
-abbrev pub AreOf : ClaimTable → List SeatKin → Type 0
+abbrev pub AreOf : ClaimTable → List SeatIdentity → Type 0
 AreOf t [] = Unit {0}
 AreOf t (k ∷ all) = IsOf t k × AreOf t all
 
 -- the number of parts of seats
-abbrev pub parts_of : List SeatKin → ℕ
+abbrev pub parts_of : List SeatIdentity → ℕ
 parts_of [] = 0
 parts_of (k ∷ all) = k.parts + parts_of all
 
 -- these are all seats of the table
-pub record AreAll (t : ClaimTable) (all : List SeatKin) : Type 0 where
+pub record AreAll (t : ClaimTable) (all : List SeatIdentity) : Type 0 where
   pub of : AreOf t all
   pub whole : parts_of all ≡ 256
 

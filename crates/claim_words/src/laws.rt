@@ -1,6 +1,6 @@
 //! The account of claims whose seats are back.
 ghost use Rattle.std.specs.Prelude.{map};
-ghost use Rattle.claim_words.specs.Seats.{AreAll, AreAccounted, kin};
+ghost use Rattle.claim_words.specs.Seats.{AreAll, AreAccounted, identity};
 
 use crate::plays::Share;
 use crate::seat::ClaimSeat;
@@ -9,7 +9,7 @@ use crate::table::ClaimTable;
 /// Settles the account of all claims, for all seats of a table: for each counter, the members below its word are claimed, each
 /// by one seat once, and no others. Does not allocate.
 pub fn claimed(table: ClaimTable, mut seats: Vec<ClaimSeat>)
-    requires all { AreAll table (map kin seats.items) }
+    requires all { AreAll table (map identity seats.items) }
     ensures accounted { AreAccounted table.counts.items seats.items }
 {
     let ClaimTable { table, counts: _ } = table;

@@ -26,7 +26,7 @@ pub struct ClaimTable {
 
 impl ClaimTable {
     ghost use Rattle.claim_words.specs.Claims.{fresh};
-    ghost use Rattle.claim_words.specs.Seats.{AreAll, IsOf, IsNew, ClaimGives, kin};
+    ghost use Rattle.claim_words.specs.Seats.{AreAll, IsOf, IsNew, ClaimGives, identity};
 
     /// Counters with so many members each, none of which is claimed, at most `MOST_ROWS` counters; and so many seats, 1 to 255.
     ///
@@ -45,7 +45,7 @@ impl ClaimTable {
         requires { (1 ≤ seats) × (length counts.now ≤ MOST_ROWS) }
         ensures counts { IfOk result (λ t. t.0.counts.items ≡ counts.now) }
         ensures seats { IfOk result (λ t. vec_len t.1 ≡ seats) }
-        ensures all { IfOk result (λ t. AreAll t.0 (map kin t.1.items)) }
+        ensures all { IfOk result (λ t. AreAll t.0 (map identity t.1.items)) }
         ensures new { IfOk result (λ t. All IsNew t.1.items) }
     {
         let (table, mut first) = ClaimTable::open(alloc, counts)?;
@@ -100,9 +100,9 @@ impl ClaimTable {
     /// Why: the call adds only if it saw a free member, so a seat draws past a counter's members at most once. A counter stays
     /// below 512, for 256 members and 256 parts.
     pub fn claim(&self, seat: &mut ClaimSeat, row: u16) -> Claimed
-        requires of { IsOf self.now (kin seat.old) }
+        requires of { IsOf self.now (identity seat.old) }
         requires row { row < length self.now.counts.items }
-        ensures kin { kin seat.new ≡ kin seat.old }
+        ensures identity { identity seat.new ≡ identity seat.old }
         ensures gives { ClaimGives self.now.counts.items row seat.old result seat.new }
     {
         let word = usize::from(row);

@@ -8,7 +8,7 @@ use Rattle.clap.specs.Walk.{Text, Row}
 use Rattle.clap.specs.Simple.{subcommand_of}
 use Rattle.clap.specs.Faults.{fault_of}
 use Rattle.command_words.specs.App.{lithe_app}
-use Rattle.command_words.specs.Asked.{number_at, harts_at, make_at, command_at, asked_of}
+use Rattle.command_words.specs.Parsed.{number_at, harts_at, make_at, command_at, parsed_from}
 use Rattle.command_words.specs.Form.{Given, is_known, times, are_these, options_of, these, value_of, number_in, number_of, harts_given, made_from, make_of, harts_alone, harts_command, with_harts, form_of}
 use Rattle.command_words.specs.declared.command.Command.{Command}
 use Rattle.command_words.specs.declared.command.Command.TheVariants.{Solo, Make}
@@ -73,37 +73,37 @@ abbrev at_rows : List Row → (ℕ → Command) → Option Command
 at_rows rows command = option_map command (harts_at rows)
 
 -- ---- words without a fault
-solo_right : (rest : List Text) → NoDashes rest → fault_of lithe_app (codes "solo" ∷ rest) ≡ [] → asked_of (subcommand_of lithe_app (codes "solo" ∷ rest)) ≡ form_of (codes "solo" ∷ rest)
+solo_right : (rest : List Text) → NoDashes rest → fault_of lithe_app (codes "solo" ∷ rest) ≡ [] → parsed_from (subcommand_of lithe_app (codes "solo" ∷ rest)) ≡ form_of (codes "solo" ∷ rest)
 solo_right rest none e =
     let read = leaf_sound (codes "solo") [] rest none (sym (named_fault (codes "solo") [] rest solo_sub) ∙ e) in
-    ap asked_of (named_rows (codes "solo") [] rest solo_sub) ∙ ap (option_map (λ (options : List Given). Solo)) (sym (these_are [] rest read))
+    ap parsed_from (named_rows (codes "solo") [] rest solo_sub) ∙ ap (option_map (λ (options : List Given). Solo)) (sym (these_are [] rest read))
 
-make_right : (rest : List Text) → NoDashes rest → fault_of lithe_app (codes "make" ∷ rest) ≡ [] → asked_of (subcommand_of lithe_app (codes "make" ∷ rest)) ≡ form_of (codes "make" ∷ rest)
+make_right : (rest : List Text) → NoDashes rest → fault_of lithe_app (codes "make" ∷ rest) ≡ [] → parsed_from (subcommand_of lithe_app (codes "make" ∷ rest)) ≡ form_of (codes "make" ∷ rest)
 make_right rest none e =
     let read = leaf_sound (codes "make") made_from rest none (sym (named_fault (codes "make") made_from rest make_sub) ∙ e) in
-    ap asked_of (named_rows (codes "make") made_from rest make_sub) ∙ ap make_at read.rows ∙ same_make read.options ∙ ap (option_and_then make_of) (sym (these_are made_from rest read))
+    ap parsed_from (named_rows (codes "make") made_from rest make_sub) ∙ ap make_at read.rows ∙ same_make read.options ∙ ap (option_and_then make_of) (sym (these_are made_from rest read))
 
 harts_right : (word : Text) (rest : List Text) (command : ℕ → Command) → IsElse word → harts_command word ≡ Some command → NoDashes rest → fault_of lithe_app (word ∷ rest) ≡ []
-    → asked_of (subcommand_of lithe_app (word ∷ rest)) ≡ form_of (word ∷ rest)
+    → parsed_from (subcommand_of lithe_app (word ∷ rest)) ≡ form_of (word ∷ rest)
 harts_right word rest command is found none e =
     let sub = harts_sub word command is found in
     let read = leaf_sound word harts_alone rest none (sym (named_fault word harts_alone rest sub) ∙ e) in
-    let asked : command_at word (rows_for read.options) ≡ option_map command (harts_at (rows_for read.options)) =
+    let parsed : command_at word (rows_for read.options) ≡ option_map command (harts_at (rows_for read.options)) =
     third (bytes_eq word (codes "solo")) (bytes_eq word (codes "make")) (Some Solo) (make_at (rows_for read.options)) (option_and_then (at_rows (rows_for read.options)) (harts_command word)) is.solo is.make
     ∙ ap (option_and_then (at_rows (rows_for read.options))) found in
-    ap asked_of (named_rows word harts_alone rest sub) ∙ ap (command_at word) read.rows ∙ asked ∙ ap (option_map command) (same_number 1 16 (codes "harts") read.options)
+    ap parsed_from (named_rows word harts_alone rest sub) ∙ ap (command_at word) read.rows ∙ parsed ∙ ap (option_map command) (same_number 1 16 (codes "harts") read.options)
     ∙ ap (option_and_then (λ (options : List Given). option_map command (harts_given options))) (sym (these_are harts_alone rest read))
     ∙ sym (harts_form word rest (Some command) is found)
 
-right_at : (word : Text) (rest : List Text) → Named word → NoDashes (word ∷ rest) → fault_of lithe_app (word ∷ rest) ≡ [] → asked_of (subcommand_of lithe_app (word ∷ rest)) ≡ form_of (word ∷ rest)
+right_at : (word : Text) (rest : List Text) → Named word → NoDashes (word ∷ rest) → fault_of lithe_app (word ∷ rest) ≡ [] → parsed_from (subcommand_of lithe_app (word ∷ rest)) ≡ form_of (word ∷ rest)
 right_at word rest is_solo none e = solo_right rest none.1 e
 right_at word rest is_make none e = make_right rest none.1 e
 right_at word rest (has_harts is command found) none e = harts_right word rest command is found none.1 e
 right_at word rest (is_other is found) none e = absurd (other_fault word rest (other_sub word is found) none.0 e)
 
-pub asked_right : (words : List Text) → NoDashes words → fault_of lithe_app words ≡ [] → asked_of (subcommand_of lithe_app words) ≡ form_of words
-asked_right [] none e = absurd (nothing_fault e)
-asked_right (word ∷ rest) none e = right_at word rest (named word) none e
+pub parsed_right : (words : List Text) → NoDashes words → fault_of lithe_app words ≡ [] → parsed_from (subcommand_of lithe_app words) ≡ form_of words
+parsed_right [] none e = absurd (nothing_fault e)
+parsed_right (word ∷ rest) none e = right_at word rest (named word) none e
 
 -- ---- a form has no fault
 pub record Serves (words : List Text) : Type 0 where

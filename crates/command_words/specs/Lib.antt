@@ -1,4 +1,4 @@
 pub mod App
-pub mod Asked
+pub mod Parsed
 pub mod Form
 pub mod Parts

@@ -5,7 +5,7 @@ ghost use Rattle.std.specs.Str.{bytes_eq};
 ghost use Rattle.clap.specs.Words.{FailsBy, fault_of, kind_of, rows_of, found_of, subcommand_of, subcommand_rows_of};
 ghost use Rattle.clap.specs.declared.error.kind.ErrorKind.TheVariants.{OutOfMemory};
 ghost use Rattle.command_words.specs.App.{lithe_app};
-ghost use Rattle.command_words.specs.Asked.{asked_of, command_at, make_at, harts_at, number_at};
+ghost use Rattle.command_words.specs.Parsed.{parsed_from, command_at, make_at, harts_at, number_at};
 ghost use Rattle.command_words.specs.Form.{form_of};
 
 use crate::app::commands;
@@ -31,7 +31,7 @@ pub fn command_of(alloc: Global, words: &[String]) -> Result<Option<Command>, Al
         return Ok(None);
     }
     match matches_of(alloc, words) {
-        Ok(matches) => Ok(asked(&matches)),
+        Ok(matches) => Ok(parsed(&matches)),
         Err(error) => refused(error),
     }
 }
@@ -65,8 +65,8 @@ fn refused(error: Error) -> Result<Option<Command>, AllocError>
 }
 
 // The command of clap's matches.
-fn asked(matches: &ArgMatches<'_>) -> Option<Command>
-    ensures { result ≡ asked_of (subcommand_rows_of matches.now) }
+fn parsed(matches: &ArgMatches<'_>) -> Option<Command>
+    ensures { result ≡ parsed_from (subcommand_rows_of matches.now) }
 {
     match matches.subcommand() {
         Some((name, given)) => command_at(name, given),

@@ -8,7 +8,7 @@ use Rattle.deque_rows.specs.declared.account.Log.{Log}
 use Rattle.deque_rows.specs.declared.hart.HartRows.{HartRows}
 use Rattle.deque_rows.specs.declared.ends.StealingEnd.{StealingEnd}
 use Rattle.deque_rows.specs.Account.{idle, blank}
-use Rattle.deque_rows.specs.Rows.{Kin, kin, share, home_logs, home_names, pass_logs, owner_log, row_at, place, rooms, AreAll, AreNew, HasRooms}
+use Rattle.deque_rows.specs.Rows.{Identity, identity, share, home_logs, home_names, pass_logs, owner_log, row_at, place, rooms, AreAll, AreNew, HasRooms}
 use Rattle.deque_rows.specs.Lines.{IsHome, IsAt, IsLine, Standing, standing, less, end_log, end_name}
 use Rattle.deque_rows.proofs.Places.{hart_of_row, mod_three, pick, hart_row, row_at-map}
 
@@ -109,50 +109,50 @@ module _ (harts g : ℕ) (rows mid : List HartRows) (d0 y : HartRows) (ends : Li
 module _ (harts : ℕ) (rows : List HartRows) (count : length rows ≡ harts) (few : harts ≤ 16)
     (owners : (r : ℕ) → r < 3 * harts → owner_log rows r ≡ blank (64 - harts) true)
     (ats : (h : ℕ) (d : HartRows) → h < harts → IsAt harts harts (map home_names rows) h (get_or rows h d)) where
-  all_kin : length (map kin rows) ≡ harts
-  all_kin = length-map rows kin ∙ count
+  all_identities : length (map identity rows) ≡ harts
+  all_identities = length-map rows identity ∙ count
 
-  kin_at : (h : ℕ) (d : Kin) (there : h < length (map kin rows)) (q : HartRows) → get_or (map kin rows) h d ≡ kin (get_or rows h q)
-  kin_at h d there q = get_or-map kin rows h q d (subst (λ n. h < n) (length-map rows kin) there)
+  identity_at : (h : ℕ) (d : Identity) (there : h < length (map identity rows)) (q : HartRows) → get_or (map identity rows) h d ≡ identity (get_or rows h q)
+  identity_at h d there q = get_or-map identity rows h q d (subst (λ n. h < n) (length-map rows identity) there)
 
-  some_at : (h : ℕ) → h < length (map kin rows) → HartRows
-  some_at h there = pick rows h (subst (λ n. h < n) (length-map rows kin) there)
+  some_at : (h : ℕ) → h < length (map identity rows) → HartRows
+  some_at h there = pick rows h (subst (λ n. h < n) (length-map rows identity) there)
 
-  is_at : (h : ℕ) (there : h < length (map kin rows)) → IsAt harts harts (map home_names rows) h (get_or rows h (some_at h there))
-  is_at h there = ats h (some_at h there) (subst (λ n. h < n) all_kin there)
+  is_at : (h : ℕ) (there : h < length (map identity rows)) → IsAt harts harts (map home_names rows) h (get_or rows h (some_at h there))
+  is_at h there = ats h (some_at h there) (subst (λ n. h < n) all_identities there)
 
   -- The ends of one hart.
-  ends_of : (h r : ℕ) (there : h < length (map kin rows)) → r < 3 * length (map kin rows) → r < length (get_or rows h (some_at h there)).ends.items
+  ends_of : (h r : ℕ) (there : h < length (map identity rows)) → r < 3 * length (map identity rows) → r < length (get_or rows h (some_at h there)).ends.items
   ends_of h r there below =
       let q = get_or rows h (some_at h there) in
-      let a = (is_at h there).reaches (subst (λ n. h < n) all_kin there) in
+      let a = (is_at h there).reaches (subst (λ n. h < n) all_identities there) in
       let b = q.reaches in
       let k = q.ends.ok in
-      omega (arith, a, b, k, below, all_kin)
+      omega (arith, a, b, k, below, all_identities)
 
-  pub all_reached : AreAll (map kin rows)
+  pub all_reached : AreAll (map identity rows)
   all_reached = record {
-    few = omega (arith, few, all_kin);
-    places = λ h d there. ap (λ (k : Kin). k.hart) (kin_at h d there (some_at h there)) ∙ (is_at h there).place;
-    reaches = λ h d there. ap (λ (k : Kin). k.harts) (kin_at h d there (some_at h there)) ∙ (is_at h there).reaches (subst (λ n. h < n) all_kin there) ∙ sym all_kin;
+    few = omega (arith, few, all_identities);
+    places = λ h d there. ap (λ (k : Identity). k.hart) (identity_at h d there (some_at h there)) ∙ (is_at h there).place;
+    reaches = λ h d there. ap (λ (k : Identity). k.harts) (identity_at h d there (some_at h there)) ∙ (is_at h there).reaches (subst (λ n. h < n) all_identities there) ∙ sym all_identities;
     shares = λ r there.
-        let all : map (λ (k : Kin). k.home_shares) (map kin rows) ≡ map (map share) (map home_logs rows) = map_twice (λ (k : Kin). k.home_shares) kin (map share) home_logs (λ q. refl) rows in
-        ap (λ l. row_at (0, []) l r) all ∙ row_at-map share (map home_logs rows) idle r ∙ ap share (owners r (omega (arith, there, all_kin)))
-        ∙ ap (λ n. (64 - n, [])) (sym all_kin);
+        let all : map (λ (k : Identity). k.home_shares) (map identity rows) ≡ map (map share) (map home_logs rows) = map_twice (λ (k : Identity). k.home_shares) identity (map share) home_logs (λ q. refl) rows in
+        ap (λ l. row_at (0, []) l r) all ∙ row_at-map share (map home_logs rows) idle r ∙ ap share (owners r (omega (arith, there, all_identities)))
+        ∙ ap (λ n. (64 - n, [])) (sym all_identities);
     passes = λ h r d n there below.
         let q = get_or rows h (some_at h there) in
         let inside = ends_of h r there below in
         let e = pick q.ends.items r inside in
-        let all : map (λ (k : Kin). k.home_names) (map kin rows) ≡ map home_names rows = map_one (λ (k : Kin). k.home_names) kin home_names (λ z. refl) rows in
-        ap (λ (k : Kin). get_or k.pass_names r n) (kin_at h d there (some_at h there)) ∙ get_or-map end_name q.ends.items r e n inside
-        ∙ ((is_at h there).line (subst (λ m. h < m) all_kin there) r e n inside).1 ∙ ap (λ l. row_at n l r) (sym all);
+        let all : map (λ (k : Identity). k.home_names) (map identity rows) ≡ map home_names rows = map_one (λ (k : Identity). k.home_names) identity home_names (λ z. refl) rows in
+        ap (λ (k : Identity). get_or k.pass_names r n) (identity_at h d there (some_at h there)) ∙ get_or-map end_name q.ends.items r e n inside
+        ∙ ((is_at h there).line (subst (λ m. h < m) all_identities there) r e n inside).1 ∙ ap (λ l. row_at n l r) (sym all);
     parts = λ h r d there below.
         let q = get_or rows h (some_at h there) in
         let inside = ends_of h r there below in
         let e = pick q.ends.items r inside in
-        ap (λ (k : Kin). get_or k.pass_parts r 0) (kin_at h d there (some_at h there))
+        ap (λ (k : Identity). get_or k.pass_parts r 0) (identity_at h d there (some_at h there))
         ∙ get_or-map_same (λ (v : Log). v.parts) (pass_logs q) r idle
-        ∙ ap (λ (v : Log). v.parts) (get_or-map end_log q.ends.items r e idle inside ∙ ((is_at h there).line (subst (λ m. h < m) all_kin there) r e (end_name e) inside).0);
+        ∙ ap (λ (v : Log). v.parts) (get_or-map end_log q.ends.items r e idle inside ∙ ((is_at h there).line (subst (λ m. h < m) all_identities there) r e (end_name e) inside).0);
   }
 
   pub all_new : (h : ℕ) (d : HartRows) → h < harts → AreNew harts (get_or rows h d)

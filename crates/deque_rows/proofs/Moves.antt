@@ -4,7 +4,7 @@ use mathlib.Core.Option.{some, some-ne-none}
 use lib.ListN.{get_elem?}
 use Rattle.crossbeam_deque.specs.Tasks.{Pushes, Takes, Pops as PopsBy, Finds, FindsFew, Forks, Merges, Learns}
 use Rattle.deque_rows.specs.declared.account.Log.{Log}
-use Rattle.deque_rows.specs.Account.{blank, idle, times, total, InOrder, IsKept, Fits, RowStands, after_push, after_steal, Pops, joined, HeldAtMost, Tells}
+use Rattle.deque_rows.specs.Account.{blank, idle, times, total, InOrder, IsKept, Fits, RowStands, after_push, after_steal, Pops, joined, HeldAtMost, Determines}
 use Rattle.deque_rows.proofs.Totals.{times-append, total_set, total_snoc, each_set, each_snoc, total_whole}
 use Rattle.deque_rows.proofs.Orders.{order_fewer, order_more}
 
@@ -150,7 +150,7 @@ merges port v other u part items logs h at apart at2 =
           (λ j y _ e. each_set (Fits h.home h.gone items) logs port both (record { homes = mine.homes; spent = λ none. absurd (omega (arith, none, part)) }) (λ i z _ f. h.each i z f) j y e);
     }
 
-pub learns : (port : ℕ) (v : Log) → v.is_home ≡ true → v.parts ≡ 64 → Learns RowStands port v (Tells v)
+pub learns : (port : ℕ) (v : Log) → v.is_home ≡ true → v.parts ≡ 64 → Learns RowStands port v (Determines v)
 learns port v is whole items logs h at =
     let kept = (h.each port v at).homes is in
     let all : total (λ (u : Log). u.parts) logs ≡ v.parts = omega (arith, whole, h.parts) in (

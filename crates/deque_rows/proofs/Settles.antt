@@ -5,8 +5,8 @@ use Rattle.std.proofs.Math.ListN.{get_or-map as get_or-map_same}
 use Rattle.deque_rows.specs.declared.account.Log.{Log}
 use Rattle.deque_rows.specs.declared.hart.HartRows.{HartRows}
 use Rattle.deque_rows.specs.declared.ends.StealingEnd.{StealingEnd}
-use Rattle.deque_rows.specs.Account.{idle, times, IsSettled, Tells, joined}
-use Rattle.deque_rows.specs.Rows.{RowName, Kin, kin, share, home_logs, home_names, pass_logs, owner_log, row_at, AreAll}
+use Rattle.deque_rows.specs.Account.{idle, times, IsSettled, Determines, joined}
+use Rattle.deque_rows.specs.Rows.{RowName, Identity, identity, share, home_logs, home_names, pass_logs, owner_log, row_at, AreAll}
 use Rattle.deque_rows.specs.Lines.{end_log, end_name, gathered}
 use Rattle.deque_rows.proofs.Totals.{times-append}
 use Rattle.deque_rows.proofs.Orders.{order_rest}
@@ -14,7 +14,7 @@ use Rattle.deque_rows.proofs.Places.{row_at-map}
 use Rattle.deque_rows.proofs.Makes.{map_one, map_twice}
 
 -- The account of a deque once all its ends are back.
-pub settled : (v : Log) (stolen items : List ℕ) → Tells (gathered v 64 stolen) items → IsSettled v stolen
+pub settled : (v : Log) (stolen items : List ℕ) → Determines (gathered v 64 stolen) items → IsSettled v stolen
 settled v stolen items told = record {
   left = items;
   gone = told.0;
@@ -28,22 +28,22 @@ settled v stolen items told = record {
   steals = told.3;
 }
 
-module _ (first : List HartRows) (all : AreAll (map kin first)) where
-  few_kin : length (map kin first) ≡ length first
-  few_kin = length-map first kin
+module _ (first : List HartRows) (all : AreAll (map identity first)) where
+  few_identities : length (map identity first) ≡ length first
+  few_identities = length-map first identity
 
-  kin_at : (h : ℕ) (d : HartRows) → h < length first → get_or (map kin first) h (kin d) ≡ kin (get_or first h d)
-  kin_at h d there = get_or-map_same kin first h d
+  identity_at : (h : ℕ) (d : HartRows) → h < length first → get_or (map identity first) h (identity d) ≡ identity (get_or first h d)
+  identity_at h d there = get_or-map_same identity first h d
 
-  in_kin : (h : ℕ) → h < length first → h < length (map kin first)
-  in_kin h there = subst (λ n. h < n) (sym few_kin) there
+  of_identity : (h : ℕ) → h < length first → h < length (map identity first)
+  of_identity h there = subst (λ n. h < n) (sym few_identities) there
 
   -- No end is back yet.
   pub untouched : (r : ℕ) → r < 3 * length first → owner_log first r ≡ gathered (owner_log first r) (64 - length first + 0) []
   untouched r there =
-      let same : map (λ (k : Kin). k.home_shares) (map kin first) ≡ map (map share) (map home_logs first) = map_twice (λ (k : Kin). k.home_shares) kin (map share) home_logs (λ q. refl) first in
-      let own : share (owner_log first r) ≡ (64 - length (map kin first), []) = sym (row_at-map share (map home_logs first) idle r) ∙ ap (λ l. row_at (0, []) l r) (sym same) ∙ all.shares r (omega (arith, there, few_kin)) in
-      let parts : 64 - length (map kin first) ≡ 64 - length first + 0 = omega (arith, few_kin) in
+      let same : map (λ (k : Identity). k.home_shares) (map identity first) ≡ map (map share) (map home_logs first) = map_twice (λ (k : Identity). k.home_shares) identity (map share) home_logs (λ q. refl) first in
+      let own : share (owner_log first r) ≡ (64 - length (map identity first), []) = sym (row_at-map share (map home_logs first) idle r) ∙ ap (λ l. row_at (0, []) l r) (sym same) ∙ all.shares r (omega (arith, there, few_identities)) in
+      let parts : 64 - length (map identity first) ≡ 64 - length first + 0 = omega (arith, few_identities) in
       ap (λ (x : ℕ × List ℕ). gathered (owner_log first r) x.0 x.1) own ∙ ap (λ p. gathered (owner_log first r) p []) parts
 
   -- The ends of hart h, none of which is back yet.
@@ -54,8 +54,8 @@ module _ (first : List HartRows) (all : AreAll (map kin first)) where
     pub ends_count : q.ends.len ≡ 3 * length first
     ends_count =
         let a = q.reaches in
-        let b = ap (λ (k : Kin). k.harts) (sym (kin_at h d there)) ∙ all.reaches h (kin d) (in_kin h there) in
-        omega (arith, a, b, few_kin)
+        let b = ap (λ (k : Identity). k.harts) (sym (identity_at h d there)) ∙ all.reaches h (identity d) (of_identity h there) in
+        omega (arith, a, b, few_identities)
 
     pub end_of : (r : ℕ) (e : StealingEnd) (n : RowName) → r < 3 * length first → end_name (get_or q.ends.items r e) ≡ row_at n (map home_names first) r
     end_of r e n below =
@@ -63,9 +63,9 @@ module _ (first : List HartRows) (all : AreAll (map kin first)) where
         let c = ends_count in
         let inside : r < length q.ends.items = omega (arith, k, c, below) in
         sym (get_or-map end_name q.ends.items r e n inside)
-        ∙ ap (λ (z : Kin). get_or z.pass_names r n) (sym (kin_at h d there))
-        ∙ all.passes h r (kin d) n (in_kin h there) (omega (arith, below, few_kin))
-        ∙ ap (λ l. row_at n l r) (map_one (λ (z : Kin). z.home_names) kin home_names (λ z. refl) first)
+        ∙ ap (λ (z : Identity). get_or z.pass_names r n) (sym (identity_at h d there))
+        ∙ all.passes h r (identity d) n (of_identity h there) (omega (arith, below, few_identities))
+        ∙ ap (λ l. row_at n l r) (map_one (λ (z : Identity). z.home_names) identity home_names (λ z. refl) first)
 
     -- The log of an end of hart h, in the list of stolen indices.
     pub end_in_line : (r : ℕ) (e : StealingEnd) → r < 3 * length first → end_log (get_or q.ends.items r e) ≡ get_or (get_or (map pass_logs first) h []) r idle
@@ -82,11 +82,11 @@ module _ (first : List HartRows) (all : AreAll (map kin first)) where
         let inside : r < length q.ends.items = omega (arith, k, c, below) in
         ap (λ (v : Log). v.parts) (sym (get_or-map end_log q.ends.items r e idle inside))
         ∙ sym (get_or-map_same (λ (v : Log). v.parts) (pass_logs q) r idle)
-        ∙ ap (λ (z : Kin). get_or z.pass_parts r 0) (sym (kin_at h d there))
-        ∙ all.parts h r (kin d) (in_kin h there) (omega (arith, below, few_kin))
+        ∙ ap (λ (z : Identity). get_or z.pass_parts r 0) (sym (identity_at h d there))
+        ∙ all.parts h r (identity d) (of_identity h there) (omega (arith, below, few_identities))
 
-pub few_rows : (first : List HartRows) → AreAll (map kin first) → length first ≤ 16
-few_rows first all = let a = all.few in let b = length-map first kin in omega (arith, a, b)
+pub few_rows : (first : List HartRows) → AreAll (map identity first) → length first ≤ 16
+few_rows first all = let a = all.few in let b = length-map first identity in omega (arith, a, b)
 
 pub sums : (a g : ℕ) → a + g + 1 ≡ a + (g + 1)
 sums a g = omega arith

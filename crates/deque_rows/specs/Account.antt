@@ -77,8 +77,8 @@ HeldAtMost most v = (items : List ℕ) × (logs : List Log) × (port : ℕ) × (
     × RowStands items logs × (get_elem? logs port ≡ some v)
 
 -- what a log with all parts states of the deque
-abbrev pub Tells : Log → List ℕ → Type 0
-Tells v items = (gone : List ℕ) × (v.kept ≡ gone ++ items) × IsKept v.pushed v.popped v.kept
+abbrev pub Determines : Log → List ℕ → Type 0
+Determines v items = (gone : List ℕ) × (v.kept ≡ gone ++ items) × IsKept v.pushed v.popped v.kept
     × ((x : ℕ) → times x v.stolen ≡ times x gone)
 
 -- The account of a deque: `stolen` are the stolen indices, `left` those that the deque holds. Each pushed index was popped,

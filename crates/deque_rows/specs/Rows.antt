@@ -56,7 +56,7 @@ bare r hart level = slice_index (bares r) (place hart level)
 
 -- what no call changes: the hart, the harts whose deques it reaches, its deques with its parts in them, and how many indices
 -- its own take
-pub record Kin : Type 0 where
+pub record Identity : Type 0 where
   pub hart : ℕ
   pub harts : ℕ
   pub home_names : List RowName
@@ -78,8 +78,8 @@ abbrev pub pass_names : HartRows → List RowName
 pass_names r = map (λ (s : StealingEnd). stealer_deque s.stealer) r.ends.items
 
 -- the identity of a hart's access to deques
-abbrev pub kin : HartRows → Kin
-kin r = record {
+abbrev pub identity : HartRows → Identity
+identity r = record {
   hart = r.hart;
   harts = r.harts;
   home_names = home_names r;
@@ -99,16 +99,16 @@ owner_log rows r = row_at idle (map home_logs rows) r
 
 -- These are all values of one call of `rows`, in order: each hart reaches the deques of all, and has one part in each; the
 -- home has the rest.
-pub record AreAll (all : List Kin) : Type 0 where
+pub record AreAll (all : List Identity) : Type 0 where
   pub few : length all ≤ 16
-  pub places : (h : ℕ) (d : Kin) → h < length all → (slice_index_or all h d).hart ≡ h
-  pub reaches : (h : ℕ) (d : Kin) → h < length all → (slice_index_or all h d).harts ≡ length all
+  pub places : (h : ℕ) (d : Identity) → h < length all → (slice_index_or all h d).hart ≡ h
+  pub reaches : (h : ℕ) (d : Identity) → h < length all → (slice_index_or all h d).harts ≡ length all
   pub shares : (r : ℕ) → r < 3 * length all
-      → row_at (0, []) (map (λ (k : Kin). k.home_shares) all) r ≡ (64 - length all, [])
-  pub passes : (h r : ℕ) (d : Kin) (n : RowName) → h < length all → r < 3 * length all
+      → row_at (0, []) (map (λ (k : Identity). k.home_shares) all) r ≡ (64 - length all, [])
+  pub passes : (h r : ℕ) (d : Identity) (n : RowName) → h < length all → r < 3 * length all
       → slice_index_or (slice_index_or all h d).pass_names r n
-      ≡ row_at n (map (λ (k : Kin). k.home_names) all) r
-  pub parts : (h r : ℕ) (d : Kin) → h < length all → r < 3 * length all
+      ≡ row_at n (map (λ (k : Identity). k.home_names) all) r
+  pub parts : (h r : ℕ) (d : Identity) → h < length all → r < 3 * length all
       → slice_index (slice_index_or all h d).pass_parts r ≡ 1
 
 -- what the first g harts stole of the r-th row, by the logs of their stealing ends

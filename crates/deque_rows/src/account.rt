@@ -94,7 +94,7 @@ impl Outcome<u32, Log> for Stole {
 pub struct Whole;
 
 impl Lesson<u32, Log> for Whole {
-    ghost use Rattle.deque_rows.specs.Account.{Tells};
+    ghost use Rattle.deque_rows.specs.Account.{Determines};
 
-    ghost fact = { Tells };
+    ghost fact = { Determines };
 }

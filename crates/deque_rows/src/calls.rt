@@ -1,7 +1,7 @@
 //! What a hart does with its deques.
 ghost use Rattle.std.specs.Prelude.{◌≡◌, ℕ, ◌+◌, ◌-◌, ◌*◌, ◌<◌, ◌≤◌, length, slice_set, slice_index};
 ghost use Rattle.deque_rows.specs.Account.{Rose};
-ghost use Rattle.deque_rows.specs.Rows.{IsLevel, place, row_room, home_log, home_logs, pass_logs, bares, kin};
+ghost use Rattle.deque_rows.specs.Rows.{IsLevel, place, row_room, home_log, home_logs, pass_logs, bares, identity};
 ghost use Rattle.deque_rows.specs.Calls.{Pushes, PopGives, StealGives, WasBare};
 
 use crate::hart::HartRows;
@@ -37,7 +37,7 @@ impl HartRows {
     pub fn push(&mut self, level: u8, code: u32)
         requires level { IsLevel level }
         requires room { length (home_log self.old level).pushed < row_room self.old level }
-        ensures kin { kin self.new ≡ kin self.old }
+        ensures identity { identity self.new ≡ identity self.old }
         ensures pushes { Pushes self.old level code self.new }
         ensures room { length (home_log self.new level).pushed
             ≡ length (home_log self.old level).pushed + 1 }
@@ -49,7 +49,7 @@ impl HartRows {
     /// this call.
     pub fn pop(&mut self, level: u8) -> Option<u32>
         requires level { IsLevel level }
-        ensures kin { kin self.new ≡ kin self.old }
+        ensures identity { identity self.new ≡ identity self.old }
         ensures gives { PopGives self.old level result self.new }
     {
         let popped = self.own[usize::from(level) - 1].pop();
@@ -64,7 +64,7 @@ impl HartRows {
     pub fn steal<R: Wait>(&mut self, rt: &R, hart: u8, level: u8) -> Stolen
         requires level { IsLevel level }
         requires hart { hart < self.old.harts }
-        ensures kin { kin self.new ≡ kin self.old }
+        ensures identity { identity self.new ≡ identity self.old }
         ensures gives { StealGives self.old hart level result self.new }
     {
         let row = place(hart, level);
@@ -83,7 +83,7 @@ impl HartRows {
     fn note_bare(&mut self, row: usize)
         requires row { row < length self.old.bare.items }
         requires bare { WasBare self.old row }
-        ensures kin { kin self.new ≡ kin self.old }
+        ensures identity { identity self.new ≡ identity self.old }
         ensures same { (home_logs self.new ≡ home_logs self.old)
             × (pass_logs self.new ≡ pass_logs self.old) }
         ensures rose { (n : ℕ) × Rose (slice_index (bares self.old) row) n

@@ -1,7 +1,7 @@
 //! The ends of one deque.
 ghost use Rattle.std.specs.Prelude.{◌≡◌, ◌<◌, ◌≤◌, ◌+◌, ◌-◌, ◌^◌, ◌⊎◌, [], ◌∷◌, ◌++◌, List, ℕ, true, false, length, MatchOption, IfOk, ⊤};
 ghost use Rattle.crossbeam_deque.specs.Handles.{view, IsPassOf, worker_deque, worker_flavor, worker_capacity, worker_index, stealer_deque, stealer_flavor, worker_view};
-ghost use Rattle.deque_rows.specs.Account.{blank, after_push, after_steal, joined, Pops, HeldAtMost, Tells};
+ghost use Rattle.deque_rows.specs.Account.{blank, after_push, after_steal, joined, Pops, HeldAtMost, Determines};
 
 use crate::account::{Account, Log, Popped, Pushed, Share, Stole, Whole};
 use crossbeam_deque::{Pass, Steal, Stealer, Worker};
@@ -83,7 +83,7 @@ impl HomeEnd {
     /// Looks at the deque, when all stealing ends are back.
     pub(crate) fn look(&mut self)
         requires { (worker_view self.old.worker).parts ≡ 64 }
-        ensures tells { (items : List ℕ) × Tells (worker_view self.old.worker) items }
+        ensures determines { (items : List ℕ) × Determines (worker_view self.old.worker) items }
         ensures view { worker_view self.new.worker ≡ worker_view self.old.worker }
         ensures same { worker_deque self.new.worker ≡ worker_deque self.old.worker }
         ensures made { self.new.made ≡ self.old.made }

@@ -1,7 +1,7 @@
 //! The account of deques when all harts are back.
 ghost use Rattle.std.specs.Prelude.{◌≡◌, ℕ, ◌*◌, ◌<◌, ◌≤◌, List, length, map, slice_index_or, vec_len};
-ghost use Rattle.deque_rows.specs.Account.{Tells, joined};
-ghost use Rattle.deque_rows.specs.Rows.{RowName, AreAll, AreSettled, kin, home_logs, home_names, pass_logs, row_at, owner_log, stolen_by};
+ghost use Rattle.deque_rows.specs.Account.{Determines, joined};
+ghost use Rattle.deque_rows.specs.Rows.{RowName, AreAll, AreSettled, identity, home_logs, home_names, pass_logs, row_at, owner_log, stolen_by};
 ghost use Rattle.deque_rows.specs.Lines.{standing, end_log, end_name, gathered};
 
 use crate::ends::StealingEnd;
@@ -12,7 +12,7 @@ use std::mem;
 /// Settles the account of all deques, for all values of one call of `rows`, in their order: each pushed index was popped or
 /// stolen once or remains, and those that remain are in the order of the pushes. Does not allocate.
 pub fn settle(mut rows: Vec<HartRows>)
-    requires all { AreAll (map kin rows.items) }
+    requires all { AreAll (map identity rows.items) }
     ensures settled { AreSettled rows.items }
 {
     settle_all(rows.as_mut_slice());
@@ -33,7 +33,7 @@ impl HartRows {
 
 // Returns all stealing ends, and looks at each deque.
 fn settle_all(rows: &mut [HartRows])
-    requires { AreAll (map kin rows.old) }
+    requires { AreAll (map identity rows.old) }
     ensures { AreSettled rows.old }
 {
     gather(rows);
@@ -42,7 +42,7 @@ fn settle_all(rows: &mut [HartRows])
 
 // Returns all stealing ends to the homes.
 fn gather(rows: &mut [HartRows])
-    requires { AreAll (map kin rows.old) }
+    requires { AreAll (map identity rows.old) }
     ensures { (r : ℕ) → r < 3 * length rows.old
         → owner_log rows.new r ≡ gathered (owner_log rows.old r) 64
         (stolen_by (map pass_logs rows.old) r (length rows.old)) }
@@ -74,7 +74,7 @@ fn look_at_all(rows: &mut [HartRows])
     requires few { length rows.old ≤ 16 }
     requires whole { (r : ℕ) → r < 3 * length rows.old → (owner_log rows.old r).parts ≡ 64 }
     ensures { (r : ℕ) → r < 3 * length rows.old
-        → (items : List ℕ) × Tells (owner_log rows.old r) items }
+        → (items : List ℕ) × Determines (owner_log rows.old r) items }
 {
     for row in 0..3 * rows.len() {
         look(rows, row);

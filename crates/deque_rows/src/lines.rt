@@ -1,6 +1,6 @@
 //! The deques of all harts, one after another.
 ghost use Rattle.std.specs.Prelude.{◌≡◌, ℕ, ◌-◌, ◌*◌, ◌<◌, false, List, length, map, slice_index_or, slice_set, IfOk};
-ghost use Rattle.deque_rows.specs.Account.{blank, idle, joined, Tells};
+ghost use Rattle.deque_rows.specs.Account.{blank, idle, joined, Determines};
 ghost use Rattle.deque_rows.specs.Rows.{RowName, home_logs, home_names, row_at, owner_log};
 ghost use Rattle.deque_rows.specs.Lines.{put, standing, end_log, end_name};
 
@@ -45,8 +45,8 @@ impl HartRows {
     fn look_own(&mut self, at: usize)
         requires at { at < 3 }
         requires whole { (slice_index_or (home_logs self.old) at idle).parts ≡ 64 }
-        ensures tells { (items : List ℕ)
-            × Tells (slice_index_or (home_logs self.old) at idle) items }
+        ensures determines { (items : List ℕ)
+            × Determines (slice_index_or (home_logs self.old) at idle) items }
         ensures logs { home_logs self.new ≡ home_logs self.old }
     {
         self.own[at].look();
@@ -87,7 +87,7 @@ pub(crate) fn give_back(rows: &mut [HartRows], row: usize, end: StealingEnd)
 pub(crate) fn look(rows: &mut [HartRows], row: usize)
     requires row { row < 3 * length rows.old }
     requires whole { (owner_log rows.old row).parts ≡ 64 }
-    ensures tells { (items : List ℕ) × Tells (owner_log rows.old row) items }
+    ensures determines { (items : List ℕ) × Determines (owner_log rows.old row) items }
     ensures logs { map home_logs rows.new ≡ map home_logs rows.old }
 {
     rows[row / 3].look_own(row % 3);

@@ -1,6 +1,6 @@
 //! Making the deques.
 ghost use Rattle.std.specs.Prelude.{◌≡◌, ℕ, ◌+◌, ◌-◌, ◌*◌, ◌<◌, ◌≤◌, length, map, replicate, slice_index_or, IfOk, vec_len};
-ghost use Rattle.deque_rows.specs.Rows.{AreAll, AreNew, HasRooms, rooms, kin, home_logs, home_names, owner_log};
+ghost use Rattle.deque_rows.specs.Rows.{AreAll, AreNew, HasRooms, rooms, identity, home_logs, home_names, owner_log};
 ghost use Rattle.deque_rows.specs.declared.making.TheConstants.{ROOM};
 ghost use Rattle.deque_rows.specs.Lines.{IsHome, IsLine, less, standing};
 
@@ -24,7 +24,7 @@ pub const ROOM: u32 = 16_384;
 pub fn rows(alloc: Global, harts: u8) -> Result<Vec<HartRows>, AllocError>
     requires { (1 ≤ harts) × (harts ≤ 16) }
     ensures count { IfOk result (λ rows. vec_len rows ≡ harts) }
-    ensures all { IfOk result (λ rows. AreAll (map kin rows.items)) }
+    ensures all { IfOk result (λ rows. AreAll (map identity rows.items)) }
     ensures new { IfOk result
         (λ rows. (h : ℕ) (d : HartRows) → h < harts
         → AreNew harts (slice_index_or rows.items h d)) }
@@ -53,7 +53,7 @@ pub fn rows_for(alloc: Global, harts: u8, room: u32) -> Result<Vec<HartRows>, Al
     requires harts { (1 ≤ harts) × (harts ≤ 16) }
     requires room { (1 ≤ room) × (room ≤ ROOM) }
     ensures count { IfOk result (λ rows. vec_len rows ≡ harts) }
-    ensures all { IfOk result (λ rows. AreAll (map kin rows.items)) }
+    ensures all { IfOk result (λ rows. AreAll (map identity rows.items)) }
     ensures new { IfOk result
         (λ rows. (h : ℕ) (d : HartRows) → h < harts
         → AreNew harts (slice_index_or rows.items h d)) }
@@ -72,7 +72,7 @@ fn reach_all(alloc: Global, harts: u8, rows: &mut [HartRows]) -> Result<(), Allo
     requires count { length rows.old ≡ harts }
     requires homes { (h : ℕ) (d : HartRows) → h < harts
         → IsHome harts h (slice_index_or rows.old h d) }
-    ensures all { IfOk result (λ done. AreAll (map kin rows.new)) }
+    ensures all { IfOk result (λ done. AreAll (map identity rows.new)) }
     ensures new { IfOk result
         (λ done. (h : ℕ) (d : HartRows) → h < harts → AreNew harts (slice_index_or rows.new h d)) }
     ensures rooms { IfOk result (λ done. map rooms rows.new ≡ map rooms rows.old) }

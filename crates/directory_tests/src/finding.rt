@@ -5,7 +5,7 @@ use array_tree::Program;
 use forkjoin_sched::{Pool, SharedPool};
 use once_cell::race::OnceBox;
 use sample_programs::{TWO_BRANCHES, first_jobs, parsed};
-use site_directory::{SharedSite, SiteLine, cells, lines};
+use site_directory::{SharedSite, SiteCell, cells, lines};
 use std::alloc::Global;
 use std::test::Fail;
 
@@ -23,7 +23,7 @@ fn pool_site<'p>(alloc: Global, program: &'p Program) -> Result<Box<SharedSite<'
 // Publishes the scheduler of a program that begins with a `par`. Returns whether the cell took it.
 pub fn is_taken<'a, 'p>(
     alloc: Global,
-    line: &mut SiteLine<'a, SharedSite<'p>>,
+    line: &mut SiteCell<'a, SharedSite<'p>>,
     program: &'p Program,
 ) -> Result<bool, Fail> {
     match line.publish(pool_site(alloc, program)?) {
@@ -33,7 +33,7 @@ pub fn is_taken<'a, 'p>(
 }
 
 // The number of jobs of the `par`'s scheduler in a cell; 0 if the cell has none.
-fn jobs_found(line: &mut SiteLine<'_, SharedSite<'_>>) -> usize {
+fn jobs_found(line: &mut SiteCell<'_, SharedSite<'_>>) -> usize {
     match line.find() {
         Some(SharedSite::Pool { home: _, pool }) => pool.jobs().len(),
         _ => 0,

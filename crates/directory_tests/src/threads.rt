@@ -5,7 +5,7 @@ use crate::finding::is_taken;
 use array_tree::Program;
 use once_cell::race::OnceBox;
 use sample_programs::{TWO_BRANCHES, parsed};
-use site_directory::{SharedSite, SiteLine, cells};
+use site_directory::{SharedSite, SiteCell, cells};
 use std::alloc::Global;
 use std::sync::Wait;
 use std::test::Fail;
@@ -15,7 +15,7 @@ use std::thread::Threads;
 // A hart, with its line to a cell, and the number of jobs that it found there.
 #[derive(Drop)]
 struct Finder<'x, 'p> {
-    line: SiteLine<'x, SharedSite<'p>>,
+    line: SiteCell<'x, SharedSite<'p>>,
     jobs: usize,
 }
 
@@ -41,13 +41,13 @@ fn is_found_by_two<'x, 'p: 'x, R: Threads + Wait + Sync>(
 ) -> Result<bool, Fail>
     requires { length cells.now ≡ 2 }
 {
-    let mut home = SiteLine::new(&cells[1]);
+    let mut home = SiteCell::new(&cells[1]);
     if !is_taken(alloc, &mut home, program)? {
         return Err(Fail::new("the cell is full"));
     }
     let mut finders = Vec::new(alloc);
     for _ in 0..2 {
-        let line = SiteLine::new(&cells[1]);
+        let line = SiteCell::new(&cells[1]);
         finders.push(Finder { line, jobs: 0 })?;
     }
     look_all(rt, finders.as_mut_slice());

@@ -15,7 +15,7 @@ use Rattle.disjoint_check.specs.Faults.{unless, first_fault}
 use Rattle.disjoint_check.specs.FirstNames.{duplicate_name, unknown_name}
 use Rattle.disjoint_check.specs.FirstRanges.{range_fault}
 use Rattle.site_counts.specs.Capped.{capped}
-use Rattle.disjoint_check.specs.LimitFault.{told_depth, room_for, limit_fault_of, MeetsLimits}
+use Rattle.disjoint_check.specs.LimitFault.{clamped_depth, room_for, limit_fault_of, MeetsLimits}
 use Rattle.disjoint_check.proofs.Firsts.{is_none, none_from, to_none, none_cons, none_map, none_unless}
 use Rattle.disjoint_check.proofs.NameLaws.{single_names, only_known_names}
 use Rattle.disjoint_check.proofs.RangeLaws.{in_range}
@@ -40,7 +40,7 @@ are_few p harts = nat_le (sites_in p.body) 4095 && nat_le (room_for (sites_in p.
 
 abbrev size_faults : ProgramTree → ℕ → List (Option CheckFault)
 size_faults p harts =
-    unless (nat_le (depth_of p.body) 3) (TooDeep (told_depth (depth_of p.body)))
+    unless (nat_le (depth_of p.body) 3) (TooDeep (clamped_depth (depth_of p.body)))
     ∷ unless (nat_le (units_of p.body) 1048576) (TooMuchWork (capped (units_of p.body)))
     ∷ unless (are_few p harts) (TooManySites (capped (sites_in p.body)))
     ∷ unless (nat_le (pieces_in p.body) 16384) (TooManyPieces (capped (pieces_in p.body)))

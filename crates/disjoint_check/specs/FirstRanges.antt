@@ -9,8 +9,8 @@ use Rattle.disjoint_check.specs.declared.fault.CheckFault.TheVariants.{BadRange}
 use Rattle.disjoint_check.specs.declared.fault.Limit.TheVariants as limit
 
 -- A number of parts as it is reported: at most the greatest number of 63 bits.
-abbrev pub told : ℕ → ℤ
-told count = pos (min count (2 ^ 63 - 1))
+abbrev pub clamped : ℕ → ℤ
+clamped count = pos (min count (2 ^ 63 - 1))
 
 -- The fault of a declaration is the first limit that it passes, with so many arrays and so many cells before it.
 abbrev pub declaration_fault : Declaration → ℕ → ℕ → Option CheckFault
@@ -34,7 +34,7 @@ abbrev pub team_fault : ℕ → ℤ → ℤ → ℤ → ℕ → Option CheckFaul
 team_fault line low high members phases = first_fault
     (unless (int_le low high) (BadRange line limit.Bounds high)
     ∷ unless (is_up_to (pos most_members) members) (BadRange line limit.Members members)
-    ∷ unless (is_up_to (pos most_phases) (pos phases)) (BadRange line limit.Phases (told phases))
+    ∷ unless (is_up_to (pos most_phases) (pos phases)) (BadRange line limit.Phases (clamped phases))
     ∷ [])
 
 -- The first fault of the ranges of a sequence, a statement, and branches or phases.
@@ -53,7 +53,7 @@ abbrev mutual
       first_fault (range_fault_in then_block ∷ range_fault_in else_block ∷ [])
   statement_range_fault (Par line branches) = first_fault
       (unless (is_up_to (pos most_members) (pos (count_of branches)))
-      (BadRange line limit.Branches (told (count_of branches)))
+      (BadRange line limit.Branches (clamped (count_of branches)))
       ∷ range_fault_among branches
       ∷ [])
   statement_range_fault (Team line var low high members phases) =

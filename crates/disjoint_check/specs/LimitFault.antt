@@ -15,8 +15,8 @@ use Rattle.disjoint_check.specs.declared.fault.CheckFault.{CheckFault}
 use Rattle.disjoint_check.specs.declared.fault.CheckFault.TheVariants.{DuplicateName, UnknownName, TooDeep, TooMuchWork, TooManySites, TooManyPieces}
 
 -- The greatest depth as it is reported: at most the greatest number of 32 bits.
-abbrev pub told_depth : ℕ → ℕ
-told_depth depth = min depth (2 ^ 32 - 1)
+abbrev pub clamped_depth : ℕ → ℕ
+clamped_depth depth = min depth (2 ^ 32 - 1)
 
 -- The number of entries that the journal of a run with so many sites and harts may have.
 abbrev pub room_for : ℕ → ℕ → ℕ
@@ -29,7 +29,7 @@ limit_fault_of program harts = first_fault
     ∷ option_map UnknownName (unknown_name program)
     ∷ range_fault program
     ∷ unless (nat_le (depth_of program.body) most_depth)
-    (TooDeep (told_depth (depth_of program.body)))
+    (TooDeep (clamped_depth (depth_of program.body)))
     ∷ unless (nat_le (units_of program.body) most_units)
     (TooMuchWork (capped (units_of program.body)))
     ∷ unless (nat_le (sites_in program.body) most_sites

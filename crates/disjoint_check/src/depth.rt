@@ -2,14 +2,14 @@
 ghost use Rattle.std.specs.Prelude.{◌≡◌};
 ghost use Rattle.array_tree.specs.Trees.{statement_of, sequence_of, sequences_of};
 ghost use Rattle.array_meaning.specs.Limits.{depth_of, statement_depth_of, branches_depth_of};
-ghost use Rattle.disjoint_check.specs.LimitFault.{told_depth};
+ghost use Rattle.disjoint_check.specs.LimitFault.{clamped_depth};
 
 use array_tree::{Block, Blocks, Stmt};
 
 /// The depth to which constructs nest in a block.
 #[cycle(depth)]
 pub(crate) fn depth_of_block(block: &Block) -> u32
-    ensures { result ≡ told_depth (depth_of (sequence_of block.now)) }
+    ensures { result ≡ clamped_depth (depth_of (sequence_of block.now)) }
 {
     let mut depth = 0;
     for statement in &block.statements {
@@ -21,7 +21,7 @@ pub(crate) fn depth_of_block(block: &Block) -> u32
 // The same for a statement: a construct is one deeper than the constructs inside it.
 #[cycle(depth)]
 fn depth_of_statement(statement: &Stmt) -> u32
-    ensures { result ≡ told_depth (statement_depth_of (statement_of statement.now)) }
+    ensures { result ≡ clamped_depth (statement_depth_of (statement_of statement.now)) }
 {
     match statement {
         Stmt::Assign { .. } => 0,
@@ -39,7 +39,7 @@ fn depth_of_statement(statement: &Stmt) -> u32
 // The same for branches or phases: the deepest counts.
 #[cycle(depth)]
 fn depth_among(blocks: &Blocks) -> u32
-    ensures { result ≡ told_depth (branches_depth_of (sequences_of blocks.now)) }
+    ensures { result ≡ clamped_depth (branches_depth_of (sequences_of blocks.now)) }
 {
     let mut depth = 0;
     for block in &blocks.blocks {

@@ -2,7 +2,7 @@
 ghost use Rattle.std.specs.Prelude.{◌≡◌, ◌≤◌, map};
 ghost use Rattle.array_tree.specs.Trees.{statement_of, sequence_of, sequences_of, declaration_of, program_of};
 ghost use Rattle.array_meaning.specs.Bounds.{most_cells};
-ghost use Rattle.disjoint_check.specs.FirstRanges.{declaration_fault, declarations_fault, team_fault, range_fault_in, statement_range_fault, range_fault_among, range_fault, told};
+ghost use Rattle.disjoint_check.specs.FirstRanges.{declaration_fault, declarations_fault, team_fault, range_fault_in, statement_range_fault, range_fault_among, range_fault, clamped};
 
 use crate::fault::{CheckFault, Limit};
 use array_tree::{ArrayDecl, Block, Blocks, Program, Stmt};
@@ -109,7 +109,7 @@ fn range_fault_in_statement(statement: &Stmt) -> Option<CheckFault>
         Stmt::Par { line, branches } => {
             let count = count_of(branches);
             if count < 1 || count > MOST_MEMBERS {
-                return Some(bad_range(*line, Limit::Branches, told(count)));
+                return Some(bad_range(*line, Limit::Branches, clamped(count)));
             }
             range_fault_among(branches)
         }
@@ -153,7 +153,7 @@ fn team_fault(line: u32, low: i64, high: i64, members: i64, phases: usize) -> Op
         return Some(bad_range(line, Limit::Members, members));
     }
     if phases < 1 || phases > MOST_PHASES {
-        return Some(bad_range(line, Limit::Phases, told(phases)));
+        return Some(bad_range(line, Limit::Phases, clamped(phases)));
     }
     None
 }
@@ -166,8 +166,8 @@ fn bad_range(line: u32, what: Limit, found: i64) -> CheckFault
 }
 
 // A number of parts as it is reported.
-fn told(count: usize) -> i64
-    ensures { result ≡ told count }
+fn clamped(count: usize) -> i64
+    ensures { result ≡ clamped count }
 {
     i64::try_from(count).unwrap_or(i64::MAX)
 }

@@ -5,7 +5,7 @@ ghost use Rattle.array_meaning.specs.Stores.{arrays_of, AreSized};
 ghost use Rattle.array_meaning.specs.Plans.{sites_in};
 ghost use Rattle.array_meaning.specs.Entered.{branches_part, entered_of, loop_part, phases_part, sequence_part, statement_part};
 ghost use Rattle.array_eval.specs.Views.{vars_of};
-ghost use Rattle.entered_sites.specs.Told.{told};
+ghost use Rattle.entered_sites.specs.Recorded.{recorded};
 
 use crate::choice::has_no_choice;
 use crate::walker::Walker;
@@ -57,7 +57,7 @@ fn walk_block<'s>(
     scope: &'s Scope<'s>,
     walker: &mut Walker,
 ) -> Result<(), AllocError>
-    ensures { IfOk result (λ _. walker.new ≡ told layout.now (sequence_part layout.now (sequence_of block.now) (vars_of scope.now)) walker.old) }
+    ensures { IfOk result (λ _. walker.new ≡ recorded layout.now (sequence_part layout.now (sequence_of block.now) (vars_of scope.now)) walker.old) }
 {
     if sites_in_block(block) == 0 {
         walker.run_block(layout, block, scope);
@@ -74,7 +74,7 @@ fn walk_statements<'s>(
     scope: &'s Scope<'s>,
     walker: &mut Walker,
 ) -> Result<(), AllocError>
-    ensures { IfOk result (λ _. walker.new ≡ told layout.now (sequence_part layout.now (sequence_of block.now) (vars_of scope.now)) walker.old) }
+    ensures { IfOk result (λ _. walker.new ≡ recorded layout.now (sequence_part layout.now (sequence_of block.now) (vars_of scope.now)) walker.old) }
 {
     for statement in &block.statements {
         walk_statement(layout, statement, scope, walker)?;
@@ -91,7 +91,7 @@ fn walk_statement<'s>(
     scope: &'s Scope<'s>,
     walker: &mut Walker,
 ) -> Result<(), AllocError>
-    ensures { IfOk result (λ _. walker.new ≡ told layout.now (statement_part layout.now (statement_of statement.now) (vars_of scope.now)) walker.old) }
+    ensures { IfOk result (λ _. walker.new ≡ recorded layout.now (statement_part layout.now (statement_of statement.now) (vars_of scope.now)) walker.old) }
 {
     match statement {
         Stmt::Assign {
@@ -152,7 +152,7 @@ fn walk_loop<'s>(
     scope: &'s Scope<'s>,
     walker: &mut Walker,
 ) -> Result<(), AllocError>
-    ensures { IfOk result (λ _. walker.new ≡ told layout.now (loop_part layout.now var.now low high (sequence_part layout.now (sequence_of body.now)) (vars_of scope.now)) walker.old) }
+    ensures { IfOk result (λ _. walker.new ≡ recorded layout.now (loop_part layout.now var.now low high (sequence_part layout.now (sequence_of body.now)) (vars_of scope.now)) walker.old) }
 {
     // Why `low < high` comes first: the sites of a body that doesn't run needn't be counted.
     if low < high && sites_in_block(body) == 0 {
@@ -178,7 +178,7 @@ fn walk_branches<'s>(
     scope: &'s Scope<'s>,
     walker: &mut Walker,
 ) -> Result<(), AllocError>
-    ensures { IfOk result (λ _. walker.new ≡ told layout.now (branches_part layout.now (sequences_of branches.now) (vars_of scope.now)) walker.old) }
+    ensures { IfOk result (λ _. walker.new ≡ recorded layout.now (branches_part layout.now (sequences_of branches.now) (vars_of scope.now)) walker.old) }
 {
     for branch in &branches.blocks {
         walk_block(layout, branch, scope, walker)?;
@@ -197,7 +197,7 @@ fn walk_phases<'s>(
     scope: &'s Scope<'s>,
     walker: &mut Walker,
 ) -> Result<(), AllocError>
-    ensures { IfOk result (λ _. walker.new ≡ told layout.now (phases_part layout.now (sequences_of phases.now) var.now low high (vars_of scope.now)) walker.old) }
+    ensures { IfOk result (λ _. walker.new ≡ recorded layout.now (phases_part layout.now (sequences_of phases.now) var.now low high (vars_of scope.now)) walker.old) }
 {
     for phase in &phases.blocks {
         walk_loop(layout, phase, var, low, high, scope, walker)?;

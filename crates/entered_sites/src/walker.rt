@@ -6,7 +6,7 @@ ghost use Rattle.array_meaning.specs.Work.{loop, sequence_work};
 ghost use Rattle.array_meaning.specs.Plans.{sites_in};
 ghost use Rattle.array_eval.specs.Traces.{fresh, noted, traced};
 ghost use Rattle.array_eval.specs.Views.{vars_of};
-ghost use Rattle.entered_sites.specs.Told.{telling};
+ghost use Rattle.entered_sites.specs.Recorded.{recording};
 
 use array_eval::{Layout, MarkedStore, Scope, Store, evaluate, run_assign, run_block, run_loop};
 use array_tree::{Block, Expr, Name};
@@ -22,9 +22,9 @@ pub(crate) struct Walker {
 }
 
 impl Model for Walker {
-    ghost use Rattle.entered_sites.specs.Told.{Told};
+    ghost use Rattle.entered_sites.specs.Recorded.{Recorded};
 
-    ghost Value = { Told };
+    ghost Value = { Recorded };
 
     ghost view = { λ walker. record { trace = walker.store; sites = walker.sites.items } };
 }
@@ -96,7 +96,7 @@ impl Walker {
 
     /// Enters a site.
     pub(crate) fn enter(&mut self) -> Result<(), AllocError>
-        ensures { IfOk result (λ _. self.new ≡ telling (true ∷ []) self.old) }
+        ensures { IfOk result (λ _. self.new ≡ recording (true ∷ []) self.old) }
     {
         self.sites.push(true)?;
         Ok(())
@@ -105,7 +105,7 @@ impl Walker {
     /// Passes over the sites of a block that doesn't run.
     pub(crate) fn pass(&mut self, block: &Block) -> Result<(), AllocError>
         ensures { IfOk result (λ _. self.new
-            ≡ telling (replicate (sites_in (sequence_of block.now)) false) self.old) }
+            ≡ recording (replicate (sites_in (sequence_of block.now)) false) self.old) }
     {
         pass_over(sites_in_block(block), &mut self.sites)?;
         Ok(())
@@ -122,7 +122,7 @@ impl Walker {
 // Records so many sites as not entered. Why it fails for a capped count (the greatest number of 64 bits also stands for all
 // greater ones): no list has 2^63 elements.
 fn pass_over(count: u64, sites: &mut Vec<bool>) -> Result<(), AllocError>
-    ensures told { IfOk result
+    ensures recorded { IfOk result
         (λ _. sites.new.items ≡ sites.old.items ++ replicate count false) }
     ensures few { IfOk result (λ _. count < 2 ^ 63) }
 {

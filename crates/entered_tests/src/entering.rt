@@ -16,8 +16,8 @@ fn enters(alloc: Global, text: &str, expected: &[bool]) -> Result<bool, Fail> {
     let Ok(sites) = u16::try_from(sites_in_block(&program.body)) else {
         return Err(Fail::new("more sites than are told of"));
     };
-    let told = entered(alloc, &program, sites)?;
-    Ok(told.as_slice() == expected)
+    let recorded = entered(alloc, &program, sites)?;
+    Ok(recorded.as_slice() == expected)
 }
 
 #[test]
@@ -107,13 +107,13 @@ fn only_what_runs_writes(rt: HostRuntime) -> Result<(), Fail> {
 }
 
 #[test]
-fn an_accepted_program_tells_its_sites(rt: HostRuntime) -> Result<(), Fail> {
+fn an_accepted_program_records_its_sites(rt: HostRuntime) -> Result<(), Fail> {
     let alloc = rt.alloc();
     let text = "array a[4]; par { { team i in 0..2 by 2 { a[i] = i; } } { a[3] = 9; } }
         if a[0] { par { { } } } par { { } }";
     let program = parsed(alloc, text)?;
     let accepted = check(alloc, &program, 2)?;
-    let told = entered_by(alloc, &accepted)?;
-    assert!(rt; told.as_slice() == [true, true, false, true].as_slice());
+    let recorded = entered_by(alloc, &accepted)?;
+    assert!(rt; recorded.as_slice() == [true, true, false, true].as_slice());
     Ok(())
 }

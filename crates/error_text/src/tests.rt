@@ -7,7 +7,7 @@ use std::test::Fail;
 use tally_cells::TallyFault;
 
 #[test]
-fn faults_of_texts_tell_their_places(rt: HostRuntime) -> Result<(), Fail> {
+fn faults_of_texts_report_their_places(rt: HostRuntime) -> Result<(), Fail> {
     let line = syntax_line(rt.alloc(), SyntaxFault::Unexpected { at: 9 })?;
     assert_eq!(rt;
         line.as_slice(),
@@ -22,7 +22,7 @@ fn faults_of_texts_tell_their_places(rt: HostRuntime) -> Result<(), Fail> {
 }
 
 #[test]
-fn faults_of_programs_tell_what_was_found(rt: HostRuntime) -> Result<(), Fail> {
+fn faults_of_programs_report_what_was_found(rt: HostRuntime) -> Result<(), Fail> {
     let alloc = rt.alloc();
     let program = parse(alloc, b"array a[2]; array b[3];")
         .ok()
@@ -57,7 +57,7 @@ fn faults_of_programs_tell_what_was_found(rt: HostRuntime) -> Result<(), Fail> {
 }
 
 #[test]
-fn faults_of_adds_tell_their_lines(rt: HostRuntime) -> Result<(), Fail> {
+fn faults_of_adds_report_their_lines(rt: HostRuntime) -> Result<(), Fail> {
     let line = tally_line(rt.alloc(), TallyFault::Unshaped { line: 3 })?;
     assert_eq!(rt;
         line.as_slice(),
@@ -72,7 +72,7 @@ fn faults_of_adds_tell_their_lines(rt: HostRuntime) -> Result<(), Fail> {
 }
 
 #[test]
-fn crossings_tell_their_cells(rt: HostRuntime) -> Result<(), Fail> {
+fn crossings_report_their_cells(rt: HostRuntime) -> Result<(), Fail> {
     let alloc = rt.alloc();
     let program = parse(alloc, b"array a[2]; array b[3];")
         .ok()

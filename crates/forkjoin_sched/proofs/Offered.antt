@@ -2,7 +2,7 @@
 use Rattle.std.proofs.Common.{◌≡◌, ◌+◌, ◌≤◌, ℕ, suc, List, [], ◌∷◌, ◌++◌, length, sym, ap, subst, ◌∙◌, arith, refl}
 use Rattle.std.specs.Prelude.{Some, None}
 use Rattle.deque_rows.specs.declared.hart.HartRows.{HartRows}
-use Rattle.deque_rows.specs.Rows.{IsLevel, kin}
+use Rattle.deque_rows.specs.Rows.{IsLevel, identity}
 use Rattle.deque_rows.specs.Calls.{Pushes}
 use Rattle.std.proofs.lemmas.List.{length-append}
 use Rattle.array_jobs.specs.Jobs.{JobParts}
@@ -73,7 +73,7 @@ offered_skip site level n k pool mid after rows now places h gives = record {
 
 pub offered_more : (site level n k : ℕ) (pool mid after : PoolParts) (rows now then : HartRows) (places : List ℕ) (job : JobParts) → IsLevel level
     → HasOffered site level n (suc k) pool rows places mid now → GivesJob mid k (Some job) after
-    → kin then ≡ kin now → Pushes now level (code_at site job.place) then → HasOffered site level n k pool rows (places ++ k ∷ []) after then
+    → identity then ≡ identity now → Pushes now level (code_at site job.place) then → HasOffered site level n k pool rows (places ++ k ∷ []) after then
 offered_more site level n k pool mid after rows now then places job is h gives same push = record {
   below = (let e = h.below in omega (arith, e));
   falling = falls_more n k places h.falling;

@@ -11,13 +11,13 @@ use Rattle.step_eval.specs.Phases.{round_of, writes_before}
 use Rattle.step_eval.proofs.PhaseLemmas.{phases_are_merged, phases_are_constructs}
 use Rattle.forkjoin_sched.specs.Laws.{BooksGivePhases, PoolsGiveConstructs}
 
-pieces_told : (jobs : List JobParts) → map (λ job. piece_of_job (job_of job)) jobs ≡ map piece_of_job (map job_of jobs)
-pieces_told [] = refl
-pieces_told (job ∷ jobs) = ap (λ ps. piece_of_job (job_of job) ∷ ps) (pieces_told jobs)
+pieces_reported : (jobs : List JobParts) → map (λ job. piece_of_job (job_of job)) jobs ≡ map piece_of_job (map job_of jobs)
+pieces_reported [] = refl
+pieces_reported (job ∷ jobs) = ap (λ ps. piece_of_job (job_of job) ∷ ps) (pieces_reported jobs)
 
 pub books_give_phases : BooksGivePhases
 books_give_phases nested fit phase store h book same =
-    ap (λ ps. merged ps []) (pieces_told book.jobs ∙ ap (map piece_of_job) same)
+    ap (λ ps. merged ps []) (pieces_reported book.jobs ∙ ap (map piece_of_job) same)
     ∙ phases_are_merged nested fit phase store h (jobs_in nested phase store) (record { to = λ job is. is; from = λ job is. is })
 
 pub pools_give_constructs : PoolsGiveConstructs

@@ -12,7 +12,7 @@ use Rattle.deque_rows.specs.declared.hart.HartRows.{HartRows}
 use Rattle.deque_rows.specs.declared.stolen.Stolen.{Stolen}
 use Rattle.deque_rows.specs.declared.stolen.Stolen.TheVariants.{Code, Empty}
 use Rattle.deque_rows.specs.Account.{idle, after_push, after_steal, HeldAtMost, Rose}
-use Rattle.deque_rows.specs.Rows.{IsLevel, Kin, kin, home_logs, pass_logs, bares, home_log, pass_log, bare, place}
+use Rattle.deque_rows.specs.Rows.{IsLevel, Identity, identity, home_logs, pass_logs, bares, home_log, pass_log, bare, place}
 use Rattle.deque_rows.specs.Calls.{FoundBare, Pushes, PopGives, StealGives}
 use Rattle.forkjoin_sched.specs.Hands.{Keeps, IsFoundBare, HasTaken, TakesCode, TakesMore, PushesCodes, IsFalling, code_at}
 
@@ -61,35 +61,35 @@ pushed v = v.pushed
 
 -- The steps of a hart that takes an index.
 pub keeps_none : (rows : HartRows) → Keeps rows rows
-keeps_none rows = record { kin = refl; pushed = refl; bares = same_least rows rows refl }
+keeps_none rows = record { identity = refl; pushed = refl; bares = same_least rows rows refl }
 
 pub keeps_then : (a b c : HartRows) → Keeps a b → Keeps b c → Keeps a c
 keeps_then a b c h k = record {
-  kin = k.kin ∙ h.kin;
+  identity = k.identity ∙ h.identity;
   pushed = k.pushed ∙ h.pushed;
   bares = λ r. let x = h.bares r in let y = k.bares r in omega (arith, x, y);
 }
 
-pub keeps_pop : (old new : HartRows) (level : ℕ) (result : Option ℕ) → kin new ≡ kin old → PopGives old level result new → Keeps old new
+pub keeps_pop : (old new : HartRows) (level : ℕ) (result : Option ℕ) → identity new ≡ identity old → PopGives old level result new → Keeps old new
 keeps_pop old new level (Some code) same gives = record {
-  kin = same;
+  identity = same;
   pushed = ap (map (λ (v : Log). v.pushed)) gives.2 ∙ map-set_same (λ (v : Log). v.pushed) (home_logs old) (level - 1) gives.0 idle (ap (λ (v : Log). v.pushed) gives.1.1);
   bares = same_least old new gives.4;
 }
 keeps_pop old new level None same gives = record {
-  kin = same;
+  identity = same;
   pushed = ap (map (λ (v : Log). v.pushed)) gives.2;
   bares = found_least old new old.hart level gives.1;
 }
 
-pub keeps_steal : (old new : HartRows) (hart level : ℕ) (result : Stolen) → kin new ≡ kin old → StealGives old hart level result new → Keeps old new
+pub keeps_steal : (old new : HartRows) (hart level : ℕ) (result : Stolen) → identity new ≡ identity old → StealGives old hart level result new → Keeps old new
 keeps_steal old new hart level (Code code) same gives = record {
-  kin = same;
+  identity = same;
   pushed = ap (map (λ (v : Log). v.pushed)) gives.1;
   bares = same_least old new gives.2;
 }
 keeps_steal old new hart level Empty same gives = record {
-  kin = same;
+  identity = same;
   pushed = ap (map (λ (v : Log). v.pushed)) gives.2;
   bares = found_least old new hart level gives.1;
 }
@@ -113,7 +113,7 @@ takes_then a b c home level h k = record {
 
 pub taken_then : (a b c : HartRows) (home level code : ℕ) → Keeps a b → TakesMore home level a b → HasTaken home level code b c → HasTaken home level code a c
 taken_then a b c home level code kept h (inl k) = inl (
-  k.0 ∙ ap (λ (x : Kin). x.hart) kept.kin,
+  k.0 ∙ ap (λ (x : Identity). x.hart) kept.identity,
   h.popped ++ k.1,
   k.2 ∙ ap (λ l. (l ++ k.1) ++ code ∷ []) h.pops ∙ ap (λ l. l ++ code ∷ []) (append_assoc (home_log a level).popped h.popped k.1),
 )
@@ -198,21 +198,21 @@ push_twice v xs ys = λ i. record v { pushed = append_assoc v.pushed xs ys i; ke
 
 pub pushes_none : (site level : ℕ) (rows : HartRows) → PushesCodes site level [] rows rows
 pushes_none site level rows = record {
-  kin = refl;
+  identity = refl;
   own = sym (ap (set (home_logs rows) (level - 1)) (push_none (home_log rows level)) ∙ set-get_or (home_logs rows) (level - 1) idle);
   passes = refl;
   bares = refl;
 }
 
 pub pushes_more : (site level : ℕ) (places : List ℕ) (place : ℕ) (before mid after : HartRows) → IsLevel level → PushesCodes site level places before mid
-    → kin after ≡ kin mid → Pushes mid level (code_at site place) after → PushesCodes site level (places ++ place ∷ []) before after
+    → identity after ≡ identity mid → Pushes mid level (code_at site place) after → PushesCodes site level (places ++ place ∷ []) before after
 pushes_more site level places place before mid after is h same push =
     let codes = map (code_at site) places in
     let v = home_log before level in
     let x = after_push v codes in
     let at = home_set before mid level x is h.own in
     let logs = home_logs before in record {
-      kin = same ∙ h.kin;
+      identity = same ∙ h.identity;
       own = push.0 ∙ ap (λ u. set (home_logs mid) (level - 1) (after_push u (code_at site place ∷ []))) at
           ∙ ap (λ l. set l (level - 1) (after_push x (code_at site place ∷ []))) h.own
           ∙ set-set logs (level - 1) x (after_push x (code_at site place ∷ []))

@@ -41,14 +41,14 @@ LooksBy before Nothing after = HasSeen before HandedOut after ⊎ HasSeen before
 -- The cause of a result of `enter`: a job of the hand's site whose job index this call took, or the result of a look of this
 -- call under the lock. The result is `Nothing` only if this call found the deque bare, and a look of this call found the pool
 -- handed out, or without anything left.
-abbrev pub Tells : {R : Type 0} → PoolHand R → Next PoolWork → PoolHand R → Type 0
-Tells before (Run (Begin job)) after =
+abbrev pub Reports : {R : Type 0} → PoolHand R → Next PoolWork → PoolHand R → Type 0
+Reports before (Run (Begin job)) after =
     ((job.site ≡ before.shared.now.site)
     × HasTaken before.home before.level (code_of job) before.rows.now after.rows.now)
     ⊎ Sees before.looks Work after.looks
-Tells before (Run (Ready context)) after = Sees before.looks Work after.looks
-Tells before (Lend site) after = Sees before.looks Work after.looks
-Tells before Nothing after =
+Reports before (Run (Ready context)) after = Sees before.looks Work after.looks
+Reports before (Lend site) after = Sees before.looks Work after.looks
+Reports before Nothing after =
     IsFoundBare before.home before.level before.rows.now after.rows.now
     × (Sees before.looks HandedOut after.looks ⊎ Sees before.looks NoneLeft after.looks)
 
@@ -57,7 +57,7 @@ pub record AnswersHand {R : Type 0} (before : PoolHand R) (next : Next PoolWork)
     (after : PoolHand R) : Type 0 where
   pub same : IsSame before after
   pub keeps : Keeps before.rows.now after.rows.now
-  pub tells : Tells before next after
+  pub reports : Reports before next after
 
 -- The call `offer` pushes job indices for a pool that wasn't handed out, the last piece first, no piece twice.
 pub record Offers {R : Type 0} (before after : PoolHand R) : Type 0 where

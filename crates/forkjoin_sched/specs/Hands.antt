@@ -6,7 +6,7 @@ use Rattle.sched_api.specs.declared.scheduler.Next.TheVariants.{Run, Lend, Nothi
 use Rattle.deque_rows.specs.declared.account.Log.{Log}
 use Rattle.deque_rows.specs.declared.hart.HartRows.{HartRows}
 use Rattle.deque_rows.specs.Account.{HeldAtMost, Rose, after_push}
-use Rattle.deque_rows.specs.Rows.{kin, home_logs, pass_logs, bares, home_log, pass_log, bare}
+use Rattle.deque_rows.specs.Rows.{identity, home_logs, pass_logs, bares, home_log, pass_log, bare}
 use Rattle.work_agenda.specs.Agenda.{GivesReady}
 use Rattle.forkjoin_sched.specs.Pools.{PoolParts, Answers, with_agenda}
 use Rattle.forkjoin_sched.specs.declared.work.PoolWork.{PoolWork}
@@ -53,7 +53,7 @@ GivesReadyUnder (Some pool) ready (Some after) =
 
 -- The deques are the same, nothing was pushed onto them, and no counter of empty looks fell.
 pub record Keeps (before after : HartRows) : Type 0 where
-  pub kin : kin after ≡ kin before
+  pub identity : identity after ≡ identity before
   pub pushed : map (λ (v : Log). v.pushed) (home_logs after)
       ≡ map (λ (v : Log). v.pushed) (home_logs before)
   pub bares : (r : ℕ) → slice_index (bares before) r ≤ slice_index (bares after) r
@@ -97,7 +97,7 @@ IsFalling n least (place ∷ places) = (place < n) × IsFalling place least plac
 
 -- The job indices of these pieces of the site are pushed, in this order, and nothing else is done.
 pub record PushesCodes (site level : ℕ) (places : List ℕ) (before after : HartRows) : Type 0 where
-  pub kin : kin after ≡ kin before
+  pub identity : identity after ≡ identity before
   pub own : home_logs after ≡ slice_set (home_logs before) (level - 1)
       (after_push (home_log before level) (map (code_at site) places))
   pub passes : pass_logs after ≡ pass_logs before

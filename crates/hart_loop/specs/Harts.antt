@@ -7,7 +7,7 @@ use Rattle.hart_port.specs.PortView.{PortView, is_in}
 use Rattle.site_steps.specs.Back.{IsSettled}
 use Rattle.array_jobs.specs.Jobs.{JobParts}
 use Rattle.array_jobs.specs.PieceParts.{PieceParts}
-use Rattle.hart_tools.specs.Kins.{ToolKins}
+use Rattle.hart_tools.specs.Identities.{ToolIdentities}
 use Rattle.hart_loop.specs.declared.hart.Hart.{Hart}
 
 -- The hart is in the base, and the home of no site; others may share the table.
@@ -35,8 +35,8 @@ TopSitesSeenGone v = (s : ℕ) → IsSite v.plan s → parent v.plan s ≡ 0 →
 
 -- The hart has done its part of a run, with the tools that it was lent. If it had a job, it has seen each top site gone, and
 -- its piece is that job's, if there is one.
-pub record HasRun (v : PortView) (tools : ToolKins) (job : Option JobParts) (after : PortView)
-    (tools' : ToolKins) (made : Option PieceParts) : Type 0 where
+pub record HasRun (v : PortView) (tools : ToolIdentities) (job : Option JobParts) (after : PortView)
+    (tools' : ToolIdentities) (made : Option PieceParts) : Type 0 where
   pub same : IsSameHart v after
   pub lent : tools' ≡ tools
   pub gone : (j : JobParts) → job ≡ Some j → TopSitesSeenGone after

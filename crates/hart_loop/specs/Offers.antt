@@ -6,7 +6,7 @@ use Rattle.hart_work.specs.declared.schedulers.Task.{Task}
 use Rattle.hart_work.specs.declared.schedulers.Task.TheVariants as task
 
 -- The task of an action.
-abbrev pub task_told : Next JobParts → Task JobParts
-task_told (Run job) = task.Piece job
-task_told (Lend child) = task.Visit child
-task_told Nothing = task.Nothing
+abbrev pub task_reported : Next JobParts → Task JobParts
+task_reported (Run job) = task.Piece job
+task_reported (Lend child) = task.Visit child
+task_reported Nothing = task.Nothing

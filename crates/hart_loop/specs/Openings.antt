@@ -7,8 +7,8 @@ use Rattle.forkjoin_sched.specs.Shared.{SharedParts}
 use Rattle.site_directory.specs.declared.shared_site.SharedSite.{SharedSite}
 use Rattle.pipe_sched.specs.Pipes.{IsUncrossed}
 use Rattle.site_directory.specs.declared.shared_site.SharedSite.TheVariants.{Pool, Team, Pipe, Alone}
-use Rattle.hart_loop.specs.declared.hart_site.Keeper.{Keeper}
-use Rattle.hart_loop.specs.declared.hart_site.Keeper.TheVariants.{Base, Published, Kept}
+use Rattle.hart_loop.specs.declared.hart_site.Placement.{Placement}
+use Rattle.hart_loop.specs.declared.hart_site.Placement.TheVariants.{Base, Published, Kept}
 use Rattle.hart_loop.specs.declared.hart_site.HartSite.{HartSite}
 
 -- A shared pool has the jobs of the `par`.
@@ -24,17 +24,17 @@ IsMadeOf nested (Team shared) = shared ≡ nested
 IsMadeOf nested (Pipe shared) = (shared ≡ nested) × IsUncrossed (nested_of nested)
 IsMadeOf nested Alone = Unit {0}
 
--- The scheduler of a keeper's site; none for the base.
-abbrev pub kept_in : {S : Type 0} → Keeper S → Option S
+-- The scheduler of a placement's site; none for the base.
+abbrev pub kept_in : {S : Type 0} → Placement S → Option S
 kept_in (Base base) = None
 kept_in (Published shared) = Some shared.now
 kept_in (Kept shared) = Some shared.value
 
--- The keeper was made for the construct; that of the base was made for none.
+-- The placement was made for the construct; that of the base was made for none.
 abbrev pub IsMadeFor : Option SharedSite → NestedParts → Type 0
 IsMadeFor None nested = ⊥
 IsMadeFor (Some shared) nested = IsMadeOf nested shared
 
 -- The scheduler of a site that the hart opened was made for its construct.
 abbrev pub IsOpened : {S : Type 0} → (S → SharedSite) → HartSite S → Type 0
-IsOpened held site = IfSome site.opened (IsMadeFor (option_map held (kept_in site.keeper)))
+IsOpened held site = IfSome site.opened (IsMadeFor (option_map held (kept_in site.placement)))

@@ -3,14 +3,14 @@ ghost use Rattle.std.specs.Prelude.{◌≡◌, ◌<◌, IfOk, IfSome, length, ma
 ghost use Rattle.array_tree.specs.Trees.{program_of};
 ghost use Rattle.array_jobs.specs.Jobs.{job_of};
 ghost use Rattle.array_jobs.specs.Bodies.{body_of};
-ghost use Rattle.deque_rows.specs.Rows.{kin as rows_kin};
-ghost use Rattle.claim_words.specs.Seats.{kin as seat_kin};
+ghost use Rattle.deque_rows.specs.Rows.{identity as rows_identity};
+ghost use Rattle.claim_words.specs.Seats.{identity as seat_identity};
 ghost use Rattle.hart_tools.specs.Stocks.{AreTools};
 ghost use Rattle.hart_loop.specs.Harts.{AllStart, AreSame, HaveRun, AreTheSame};
 
 use crate::hart::{Hart, work};
 use crate::harts::HartSchedulers;
-use crate::members::Members;
+use crate::members::TeamMode;
 use array_jobs::{Job, Piece, body_job};
 use base_sched::{Base, SharedBase};
 use deque_rows::laws::settle;
@@ -49,7 +49,7 @@ pub fn run_ports<
     rt: &R,
     alloc: Global,
     accepted: &Accepted<'p>,
-    members: Members,
+    members: TeamMode,
     pass: &F,
     tree: &SiteTree,
     ports: Vec<P>,
@@ -129,7 +129,7 @@ fn run_lent<
     rt: &R,
     alloc: Global,
     accepted: &Accepted<'p>,
-    members: Members,
+    members: TeamMode,
     pass: &F,
     tree: &SiteTree,
     words: &Claims,
@@ -168,7 +168,7 @@ fn run_on<
 >(
     rt: &'x R,
     alloc: Global,
-    members: Members,
+    members: TeamMode,
     pass: &F,
     tree: &SiteTree,
     words: &'x Claims,
@@ -223,7 +223,7 @@ fn run_crew<
 // A hart for each port, in the base and with no job.
 fn crew<'x, 'p: 'x, P: Drop>(
     alloc: Global,
-    members: Members,
+    members: TeamMode,
     words: &'x Claims,
     stock: Stock<P>,
     base: &'x SharedBase,
@@ -236,10 +236,10 @@ fn crew<'x, 'p: 'x, P: Drop>(
         (λ harts. map (λ hart. hart.port) harts.items ≡ stock.ports.items) }
     ensures rows { IfOk result
         (λ harts. map (λ hart. hart.schedulers.tools.rows) harts.items
-        ≡ map rows_kin stock.rows.items) }
+        ≡ map rows_identity stock.rows.items) }
     ensures claims { IfOk result
         (λ harts. map (λ hart. hart.schedulers.tools.seat) harts.items
-        ≡ map seat_kin stock.claims.items) }
+        ≡ map seat_identity stock.claims.items) }
 {
     let Stock {
         ports,
@@ -323,10 +323,10 @@ fn stock_of<'x, 'p: 'x, P: Drop>(
     ensures ports { IfOk result
         (λ stock. stock.ports.items ≡ map (λ hart. hart.port) harts.entry.items) }
     ensures rows { IfOk result
-        (λ stock. map rows_kin stock.rows.items
+        (λ stock. map rows_identity stock.rows.items
         ≡ map (λ hart. hart.schedulers.tools.rows) harts.entry.items) }
     ensures claims { IfOk result
-        (λ stock. map seat_kin stock.claims.items
+        (λ stock. map seat_identity stock.claims.items
         ≡ map (λ hart. hart.schedulers.tools.seat) harts.entry.items) }
 {
     let mut stock = Stock {

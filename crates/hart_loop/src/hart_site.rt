@@ -2,23 +2,23 @@
 ghost use Rattle.std.specs.Prelude.{◌≡◌, IfOk, IsSome, IfSome, Some, option_map};
 ghost use Rattle.step_eval.specs.Nests.{NestedParts, nested_of, nested_writes};
 ghost use Rattle.hart_tools.specs.Places.{Fits};
-ghost use Rattle.hart_tools.specs.Hands.{IsWhole};
+ghost use Rattle.hart_tools.specs.Hands.{IsCompleted};
 ghost use Rattle.hart_loop.specs.Openings.{IsOpened, kept_in};
 
 use crate::in_directory::InDirectory;
-use crate::members::Members;
+use crate::members::TeamMode;
 use crate::opened::{publish, shared_site, written_by};
 use array_eval::Overlay;
 use base_sched::SharedBase;
-use hart_tools::{Grip, Tools, Whole};
-use site_directory::{SharedSite, SiteLine};
+use hart_tools::{Completed, SchedulerRef, Tools};
+use site_directory::{SharedSite, SiteCell};
 use std::alloc::{AllocError, Global};
 use std::sync::Wait;
 use step_eval::Nested;
 
 /// The holder of a site's scheduler, for a hart.
 #[derive(Drop)]
-pub enum Keeper<'a, S> {
+pub enum Placement<'a, S> {
     /// The base.
     Base(&'a SharedBase),
     /// The directory has it, for all harts.
@@ -29,7 +29,7 @@ pub enum Keeper<'a, S> {
 
 /// One site, as a hart has it.
 pub struct HartSite<'a, 'p, S> {
-    pub(crate) keeper: Keeper<'a, S>,
+    pub(crate) placement: Placement<'a, S>,
     // The construct, if this hart opened the site.
     pub(crate) opened: Option<Nested<'p>>,
     // The site's depth.
@@ -41,7 +41,7 @@ pub struct HartSite<'a, 'p, S> {
 impl<'a, 'p, S: Drop> Drop for HartSite<'a, 'p, S> {
     fn drop(self) {
         let HartSite {
-            keeper: _,
+            placement: _,
             opened: _,
             level: _,
             turns: _,
@@ -51,12 +51,16 @@ impl<'a, 'p, S: Drop> Drop for HartSite<'a, 'p, S> {
 
 impl<'a, 'p, S: InDirectory<'p>> HartSite<'a, 'p, S> {
     // A site from which the hart has got no task.
-    fn new(keeper: Keeper<'a, S>, opened: Option<Nested<'p>>, level: u8) -> HartSite<'a, 'p, S>
-        ensures keeper { result.keeper ≡ keeper.entry }
+    fn new(
+        placement: Placement<'a, S>,
+        opened: Option<Nested<'p>>,
+        level: u8,
+    ) -> HartSite<'a, 'p, S>
+        ensures placement { result.placement ≡ placement.entry }
         ensures opened { result.opened ≡ opened.entry }
     {
         HartSite {
-            keeper,
+            placement,
             opened,
             level,
             turns: u64::MAX,
@@ -67,22 +71,22 @@ impl<'a, 'p, S: InDirectory<'p>> HartSite<'a, 'p, S> {
     pub fn base(base: &'a SharedBase) -> HartSite<'a, 'p, S>
         ensures { IsOpened S.held result }
     {
-        HartSite::new(Keeper::Base(base), None, 0)
+        HartSite::new(Placement::Base(base), None, 0)
     }
 
     /// A site that another hart opened.
     pub(crate) fn found(shared: &'a S, level: u8) -> HartSite<'a, 'p, S>
         ensures { IsOpened S.held result }
     {
-        HartSite::new(Keeper::Published(shared), None, level)
+        HartSite::new(Placement::Published(shared), None, level)
     }
 
     /// Makes a scheduler for the construct, and publishes it for all harts, unless there is no room for its pieces.
     pub(crate) fn open(
         alloc: Global,
-        lines: &mut [SiteLine<'a, S>],
+        lines: &mut [SiteCell<'a, S>],
         tools: &Tools<'_>,
-        members: Members,
+        members: TeamMode,
         nested: &Nested<'p>,
     ) -> Result<HartSite<'a, 'p, S>, AllocError>
         ensures opened { IfOk result (λ site. site.opened ≡ Some nested.now) }
@@ -92,44 +96,44 @@ impl<'a, 'p, S: InDirectory<'p>> HartSite<'a, 'p, S> {
         let own = nested.copy()?;
         let shared = shared_site(alloc, tools.hart(), members, nested)?;
         let shared = Box::new(alloc, S::put(shared))?;
-        let keeper = if tools.has_room(level, nested) {
+        let placement = if tools.has_room(level, nested) {
             publish(lines, nested.site, shared)
         } else {
-            Keeper::Kept(shared)
+            Placement::Kept(shared)
         };
-        Ok(HartSite::new(keeper, Some(own), level))
+        Ok(HartSite::new(placement, Some(own), level))
     }
 
     // The scheduler of a site that isn't the base.
     fn shared(&self) -> Option<&SharedSite<'p>>
         ensures { option_map (λ shared. shared.now) result
-            ≡ option_map S.held (kept_in self.now.keeper) }
+            ≡ option_map S.held (kept_in self.now.placement) }
     {
-        match &self.keeper {
-            Keeper::Base(_) => None,
-            Keeper::Published(shared) => Some(shared.shared()),
-            Keeper::Kept(shared) => Some(shared.shared()),
+        match &self.placement {
+            Placement::Base(_) => None,
+            Placement::Published(shared) => Some(shared.shared()),
+            Placement::Kept(shared) => Some(shared.shared()),
         }
     }
 
-    /// The grip on the site's scheduler.
-    pub(crate) fn grip<'x, 't>(&'x self, tools: &Tools<'t>) -> Grip<'x, 'p>
+    /// The reference to the site's scheduler.
+    pub(crate) fn scheduler_ref<'x, 't>(&'x self, tools: &Tools<'t>) -> SchedulerRef<'x, 'p>
     where
         't: 'x,
         ensures { Fits tools.now result }
     {
-        match &self.keeper {
-            Keeper::Base(base) => Grip::Base(base),
-            Keeper::Published(shared) => tools.grip(shared.shared(), self.level),
-            Keeper::Kept(shared) => tools.grip(shared.shared(), self.level),
+        match &self.placement {
+            Placement::Base(base) => SchedulerRef::Base(base),
+            Placement::Published(shared) => tools.scheduler_ref(shared.shared(), self.level),
+            Placement::Kept(shared) => tools.scheduler_ref(shared.shared(), self.level),
         }
     }
 
     /// The number of harts, besides its home, for which the site has work: 0 if no other hart finds it, or has a hand on it.
     pub(crate) fn wishes(&self, tools: &Tools<'_>) -> u8 {
-        match (&self.keeper, &self.opened, self.grip(tools)) {
-            (_, _, Grip::Nobody) => 0,
-            (Keeper::Published(_), Some(nested), _) => nested.members() - 1,
+        match (&self.placement, &self.opened, self.scheduler_ref(tools)) {
+            (_, _, SchedulerRef::NoScheduler) => 0,
+            (Placement::Published(_), Some(nested), _) => nested.members() - 1,
             _ => 0,
         }
     }
@@ -149,9 +153,9 @@ impl<'a, 'p, S: InDirectory<'p>> HartSite<'a, 'p, S> {
             (λ written. written.pairs ≡ nested_writes (nested_of nested)) }
         ensures tools { tools.new ≡ tools.old }
     {
-        let whole = self.take_out(rt, tools)?;
+        let completed = self.take_out(rt, tools)?;
         match (&self.opened, self.shared()) {
-            (Some(nested), Some(shared)) => written_by(alloc, nested, shared, whole),
+            (Some(nested), Some(shared)) => written_by(alloc, nested, shared, completed),
             (Some(_), None) => unreachable!(),
             (None, _) => unreachable!(),
         }
@@ -163,20 +167,21 @@ impl<'a, 'p, S: InDirectory<'p>> HartSite<'a, 'p, S> {
         &self,
         rt: &R,
         tools: &mut Tools<'_>,
-    ) -> Result<Option<Whole<'p>>, AllocError>
-        ensures whole { IfOk result (λ whole. IfSome whole IsWhole) }
+    ) -> Result<Option<Completed<'p>>, AllocError>
+        ensures completed { IfOk result (λ completed. IfSome completed IsCompleted) }
         ensures tools { tools.new ≡ tools.old }
     {
-        let grip = self.grip(tools);
-        let whole = tools.take_out(rt, grip);
-        let has_failed = match &whole {
-            Some(whole) => whole.has_failed(),
-            None => !matches!(grip, Grip::Nobody) && tools.has_failed(rt, grip),
+        let scheduler_ref = self.scheduler_ref(tools);
+        let completed = tools.take_out(rt, scheduler_ref);
+        let has_failed = match &completed {
+            Some(completed) => completed.has_failed(),
+            None => !matches!(scheduler_ref, SchedulerRef::NoScheduler)
+                && tools.has_failed(rt, scheduler_ref),
         };
         if has_failed {
             Err(AllocError)
         } else {
-            Ok(whole)
+            Ok(completed)
         }
     }
 }

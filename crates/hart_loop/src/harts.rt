@@ -1,12 +1,12 @@
 //! The schedulers of the sites, as one of several harts has them.
 ghost use Rattle.std.specs.Prelude.{◌≡◌};
 ghost use Rattle.hart_loop.specs.NoAccounts.{no_account};
-ghost use Rattle.hart_loop.specs.Offers.{task_told};
+ghost use Rattle.hart_loop.specs.Offers.{task_reported};
 ghost use Rattle.hart_loop.specs.Openings.{IsOpened};
 
 use crate::hart_site::HartSite;
 use crate::in_directory::InDirectory;
-use crate::members::Members;
+use crate::members::TeamMode;
 use crate::turns::take_turn;
 use array_eval::Overlay;
 use array_jobs::{Job, Piece};
@@ -19,7 +19,7 @@ use sched_api::{
     Lent, Next, Scheduler, sched_enter, sched_register, sched_request, sched_unregister,
     sched_yield,
 };
-use site_directory::SiteLine;
+use site_directory::SiteCell;
 use std::alloc::{AllocError, Global};
 use std::marker::PhantomData;
 use std::sync::Wait;
@@ -29,18 +29,18 @@ use step_eval::Nested;
 /// their results.
 #[derive(Drop)]
 pub struct HartSchedulers<'a, 'p, S> {
-    lines: Vec<SiteLine<'a, S>>,
+    lines: Vec<SiteCell<'a, S>>,
     tools: Tools<'a>,
-    members: Members,
+    members: TeamMode,
     of: PhantomData<&'p Block>,
 }
 
 impl<'a, 'p, S> HartSchedulers<'a, 'p, S> {
     /// The schedulers of a hart, by its lines to the cells of all sites, its tools, and the way in which members go on.
     pub fn new(
-        lines: Vec<SiteLine<'a, S>>,
+        lines: Vec<SiteCell<'a, S>>,
         tools: Tools<'a>,
-        members: Members,
+        members: TeamMode,
     ) -> HartSchedulers<'a, 'p, S>
         ensures { result.tools ≡ tools.entry }
     {
@@ -68,7 +68,7 @@ impl<'a, 'p, S> HartSchedulers<'a, 'p, S> {
 
 // The task of an action.
 fn task_of<'p>(next: Next<Job<'p>>) -> Task<Job<'p>>
-    ensures { result ≡ task_told next.entry }
+    ensures { result ≡ task_reported next.entry }
 {
     match next {
         Next::Run(job) => Task::Piece(job),
@@ -145,13 +145,13 @@ impl<'a, 'p, S: InDirectory<'p>, R: Wait> Schedulers<R, JobMachines<'p>>
         around: &mut HartSite<'a, 'p, S>,
         child: u16,
     ) -> Result<(), Taken> {
-        let grip = around.grip(&self.tools);
-        self.tools.register(rt, grip, port, hold, child)
+        let scheduler_ref = around.scheduler_ref(&self.tools);
+        self.tools.register(rt, scheduler_ref, port, hold, child)
     }
 
     fn offer(&mut self, rt: &R, site: &HartSite<'a, 'p, S>) {
-        let grip = site.grip(&self.tools);
-        self.tools.offer(rt, grip);
+        let scheduler_ref = site.scheduler_ref(&self.tools);
+        self.tools.offer(rt, scheduler_ref);
     }
 
     fn request<P: Port>(
@@ -163,8 +163,9 @@ impl<'a, 'p, S: InDirectory<'p>, R: Wait> Schedulers<R, JobMachines<'p>>
         child: u16,
         count: u8,
     ) {
-        let grip = around.grip(&self.tools);
-        self.tools.request(rt, grip, port, hold, child, count);
+        let scheduler_ref = around.scheduler_ref(&self.tools);
+        self.tools
+            .request(rt, scheduler_ref, port, hold, child, count);
     }
 
     fn unregister<P: Port>(
@@ -174,8 +175,8 @@ impl<'a, 'p, S: InDirectory<'p>, R: Wait> Schedulers<R, JobMachines<'p>>
         hold: P::Hold,
         around: &mut HartSite<'a, 'p, S>,
     ) {
-        let grip = around.grip(&self.tools);
-        self.tools.unregister(rt, grip, port, hold);
+        let scheduler_ref = around.scheduler_ref(&self.tools);
+        self.tools.unregister(rt, scheduler_ref, port, hold);
     }
 
     fn enter<P: Port>(
@@ -186,8 +187,8 @@ impl<'a, 'p, S: InDirectory<'p>, R: Wait> Schedulers<R, JobMachines<'p>>
         site: &mut HartSite<'a, 'p, S>,
         child: u16,
     ) -> Option<Task<Job<'p>>> {
-        let grip = site.grip(&self.tools);
-        let told = self.tools.enter(rt, grip, port, hold, child)?;
+        let scheduler_ref = site.scheduler_ref(&self.tools);
+        let told = self.tools.enter(rt, scheduler_ref, port, hold, child)?;
         Some(task_of(told))
     }
 
@@ -198,15 +199,15 @@ impl<'a, 'p, S: InDirectory<'p>, R: Wait> Schedulers<R, JobMachines<'p>>
         hold: P::Hold,
         around: &mut HartSite<'a, 'p, S>,
     ) {
-        let grip = around.grip(&self.tools);
-        self.tools.give_back(rt, grip, port, hold);
+        let scheduler_ref = around.scheduler_ref(&self.tools);
+        self.tools.give_back(rt, scheduler_ref, port, hold);
     }
 
     /// Blocks if there is nothing to do and the hart stays.
     fn next(&mut self, rt: &R, site: &mut HartSite<'a, 'p, S>, is_home: bool) -> Task<Job<'p>> {
         take_turn(rt, &mut site.turns);
-        let grip = site.grip(&self.tools);
-        task_of(self.tools.next(rt, grip, is_home))
+        let scheduler_ref = site.scheduler_ref(&self.tools);
+        task_of(self.tools.next(rt, scheduler_ref, is_home))
     }
 
     fn deposit(
@@ -216,18 +217,18 @@ impl<'a, 'p, S: InDirectory<'p>, R: Wait> Schedulers<R, JobMachines<'p>>
         site: &mut HartSite<'a, 'p, S>,
         piece: Piece<'p>,
     ) {
-        let grip = site.grip(&self.tools);
-        self.tools.deposit(rt, grip, piece);
+        let scheduler_ref = site.scheduler_ref(&self.tools);
+        self.tools.deposit(rt, scheduler_ref, piece);
     }
 
     fn fail(&mut self, rt: &R, site: &mut HartSite<'a, 'p, S>, phase: u8, place: u8) {
-        let grip = site.grip(&self.tools);
-        self.tools.fail(rt, grip, phase, place);
+        let scheduler_ref = site.scheduler_ref(&self.tools);
+        self.tools.fail(rt, scheduler_ref, phase, place);
     }
 
     fn has_failed(&mut self, rt: &R, site: &HartSite<'a, 'p, S>) -> bool {
-        let grip = site.grip(&self.tools);
-        self.tools.has_failed(rt, grip)
+        let scheduler_ref = site.scheduler_ref(&self.tools);
+        self.tools.has_failed(rt, scheduler_ref)
     }
 
     fn take(

@@ -25,7 +25,7 @@ pub use hart_site::HartSite;
 pub use harts::HartSchedulers;
 pub use in_directory::InDirectory;
 pub use lone_hart::{Journal, Outcome, run_alone};
-pub use members::Members;
+pub use members::TeamMode;
 pub use several::{run_harts, run_piped};
 pub use wide_board::WideClosed;
 pub use word_board::Closed;

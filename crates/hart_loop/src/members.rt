@@ -2,7 +2,7 @@
 
 /// How the members of each `team` of a run go from phase to phase.
 #[derive(Clone, Copy, Debug, PartialEq, Eq, Drop)]
-pub enum Members {
+pub enum TeamMode {
     /// The members wait for one another after each phase.
     Wait,
     /// The members overtake: each goes on as soon as the members below it have done its next phase.

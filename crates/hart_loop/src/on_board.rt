@@ -7,7 +7,7 @@ ghost use Rattle.board_rule.specs.Layouts.{HasRoom};
 ghost use Rattle.lent_board.specs.Of.{IsOf};
 
 use crate::crew::run_ports;
-use crate::members::Members;
+use crate::members::TeamMode;
 use array_eval::Store;
 use board_rule::Laid;
 use disjoint_check::Accepted;
@@ -32,7 +32,7 @@ pub fn on_board<L: Laid + Sync, R: Threads + Wait + Sync, F: Fn(u8, u16, u8, u8)
     rt: &R,
     alloc: Global,
     accepted: &Accepted<'_>,
-    members: Members,
+    members: TeamMode,
     pass: &F,
     tree: &SiteTree,
 ) -> Result<(Store, Closed<L>), AllocError>

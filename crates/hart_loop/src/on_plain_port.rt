@@ -6,7 +6,7 @@ ghost use Rattle.transfer_table.specs.Plan.{most_entries};
 ghost use Rattle.lone_hart.specs.Journals.{entries_in, IsListed};
 
 use crate::crew::run_ports;
-use crate::members::Members;
+use crate::members::TeamMode;
 use disjoint_check::Accepted;
 use hart_port::PlainPort;
 use lone_hart::{Journal, Outcome, store_after};
@@ -29,7 +29,7 @@ pub fn on_plain_port<R: Threads + Wait + Sync, F: Fn(u8, u16, u8, u8) + Sync>(
     rt: &R,
     alloc: Global,
     accepted: &Accepted<'_>,
-    members: Members,
+    members: TeamMode,
     pass: &F,
     tree: &SiteTree,
 ) -> Result<Outcome, AllocError>

@@ -8,19 +8,19 @@ ghost use Rattle.step_eval.specs.declared.shape.Kind.TheVariants as kind;
 ghost use Rattle.step_eval.specs.Shapes.{kind_of};
 ghost use Rattle.step_eval.specs.Nests.{nested_of, nested_writes};
 ghost use Rattle.pipe_sched.specs.Pipes.{IsUncrossed};
-ghost use Rattle.hart_tools.specs.Hands.{IsWhole};
+ghost use Rattle.hart_tools.specs.Hands.{IsCompleted};
 ghost use Rattle.hart_loop.specs.Openings.{IsMadeOf, IsSharedPoolOf, kept_in};
 
-use crate::hart_site::Keeper;
-use crate::members::Members;
+use crate::hart_site::Placement;
+use crate::members::TeamMode;
 use array_eval::Overlay;
 use forkjoin_sched::{Pool, SharedPool};
-use hart_tools::Whole;
+use hart_tools::Completed;
 use lone_hart::{open_pool, open_team, room_for_wishes, take_from_pool};
 use loop_team::{SharedTeam, Team};
 use pipe_sched::{Pipe, SharedPipe};
 use pipe_walk::uncrossed;
-use site_directory::{SharedSite, SiteLine};
+use site_directory::{SharedSite, SiteCell};
 use std::alloc::{AllocError, Global};
 use step_eval::{Kind, Nested, compute};
 
@@ -28,7 +28,7 @@ use step_eval::{Kind, Nested, compute};
 pub(crate) fn shared_site<'p>(
     alloc: Global,
     home: u8,
-    members: Members,
+    members: TeamMode,
     nested: &Nested<'p>,
 ) -> Result<SharedSite<'p>, AllocError>
     ensures { IfOk result (λ shared. IsMadeOf nested.now shared) }
@@ -39,11 +39,11 @@ pub(crate) fn shared_site<'p>(
             Ok(SharedSite::Pool { home, pool })
         }
         Kind::Team => match members {
-            Members::Wait => {
+            TeamMode::Wait => {
                 let team = SharedTeam::new(alloc, open_team(alloc, nested.copy()?)?)?;
                 Ok(SharedSite::Team(team))
             }
-            Members::Overtake => shared_pipe(alloc, nested),
+            TeamMode::Overtake => shared_pipe(alloc, nested),
         },
     }
 }
@@ -66,18 +66,18 @@ fn shared_pipe<'p>(alloc: Global, nested: &Nested<'p>) -> Result<SharedSite<'p>,
 
 /// Puts a scheduler into the cell of its site.
 pub(crate) fn publish<'a, S: Drop>(
-    lines: &mut [SiteLine<'a, S>],
+    lines: &mut [SiteCell<'a, S>],
     site: u16,
     shared: Box<S>,
-) -> Keeper<'a, S>
+) -> Placement<'a, S>
     ensures { kept_in result ≡ Some shared.value }
 {
     let Some(line) = lines.get_mut(usize::from(site)) else {
-        return Keeper::Kept(shared);
+        return Placement::Kept(shared);
     };
     match line.publish(shared) {
-        Ok(published) => Keeper::Published(published),
-        Err(back) => Keeper::Kept(back),
+        Ok(published) => Placement::Published(published),
+        Err(back) => Placement::Kept(back),
     }
 }
 
@@ -87,18 +87,18 @@ pub(crate) fn written_by<'p>(
     alloc: Global,
     nested: &Nested<'p>,
     shared: &SharedSite<'p>,
-    whole: Option<Whole<'p>>,
+    completed: Option<Completed<'p>>,
 ) -> Result<Overlay, AllocError>
     requires made { IsMadeOf nested.now shared.now }
-    requires whole { IfSome whole IsWhole }
+    requires completed { IfSome completed IsCompleted }
     ensures { IfOk result (λ written. written.pairs ≡ nested_writes (nested_of nested.now)) }
 {
-    match (shared, whole) {
-        (SharedSite::Pool { pool, .. }, Some(Whole::Pool(taken))) => {
+    match (shared, completed) {
+        (SharedSite::Pool { pool, .. }, Some(Completed::Pool(taken))) => {
             written_by_pool(alloc, nested, pool, taken)
         }
-        (_, Some(Whole::Team(team))) => written_by_team(alloc, nested, team),
-        (SharedSite::Pipe(_), Some(Whole::Pipe(pipe))) => written_by_pipe(alloc, nested, pipe),
+        (_, Some(Completed::Team(team))) => written_by_team(alloc, nested, team),
+        (SharedSite::Pipe(_), Some(Completed::Pipe(pipe))) => written_by_pipe(alloc, nested, pipe),
         _ => compute(alloc, nested),
     }
 }

@@ -8,7 +8,7 @@ ghost use Rattle.transfer_table.specs.Plan.{most_entries};
 ghost use Rattle.transfer_table.specs.Journal.{IsComplete};
 ghost use Rattle.lone_hart.specs.Journals.{entries_in, IsListed, IsBoard, IsWide};
 
-use crate::members::Members;
+use crate::members::TeamMode;
 use crate::on_board::on_board;
 use crate::on_plain_port::on_plain_port;
 use disjoint_check::Accepted;
@@ -57,7 +57,7 @@ pub fn run_harts<R: Threads + Wait + Sync, G: Gate>(
         (λ outcome. 4 < accepted.now.plan.harts → IsWide outcome.journal) }
     ensures short { IfOk result (λ outcome. length (entries_in outcome.journal) ≤ most_entries) }
 {
-    run_tested(rt, alloc, accepted, Members::Wait, gate)
+    run_tested(rt, alloc, accepted, TeamMode::Wait, gate)
 }
 
 /// Runs an accepted program, no two pieces of which cross, on the harts of its plan, each on a thread, with members that
@@ -91,7 +91,7 @@ pub fn run_piped<R: Threads + Wait + Sync, G: Gate>(
         (λ outcome. 4 < accepted.now.plan.harts → IsWide outcome.journal) }
     ensures short { IfOk result (λ outcome. length (entries_in outcome.journal) ≤ most_entries) }
 {
-    run_tested(rt, alloc, accepted, Members::Overtake, gate)
+    run_tested(rt, alloc, accepted, TeamMode::Overtake, gate)
 }
 
 // Runs the program until its journal is complete.
@@ -99,7 +99,7 @@ fn run_tested<R: Threads + Wait + Sync, G: Gate>(
     rt: &R,
     alloc: Global,
     accepted: &Accepted<'_>,
-    members: Members,
+    members: TeamMode,
     gate: &G,
 ) -> Result<Outcome, AllocError>
     ensures store { IfOk result
@@ -130,7 +130,7 @@ fn run_once<R: Threads + Wait + Sync, F: Fn(u8, u16, u8, u8) + Sync>(
     rt: &R,
     alloc: Global,
     accepted: &Accepted<'_>,
-    members: Members,
+    members: TeamMode,
     pass: &F,
     tree: &SiteTree,
 ) -> Result<Outcome, AllocError>

@@ -8,7 +8,7 @@ use Rattle.transfer_table.specs.Entry.{registers, unregisters, skips_over, reque
 use Rattle.transfer_table.specs.declared.entry.Stage.{Stage}
 use Rattle.transfer_table.specs.declared.entry.Stage.TheVariants.{New, Live, Gone}
 use Rattle.transfer_table.specs.declared.entry.Entry.{Entry}
-use Rattle.transfer_table.proofs.Balance.{legal_balance, rows_tell}
+use Rattle.transfer_table.proofs.Balance.{legal_balance, rows_report}
 use Rattle.transfer_table.proofs.Begins.{legal_begins}
 
 -- No hart was requested, and no wish is left.
@@ -31,7 +31,7 @@ stale p plan es t is s site n = by_stage (row t s).stage refl
     by_stage : (g : Stage) → (row t s).stage ≡ g → 1 ≤ registers s es + skips_over p s es
     by_stage New e = absurd (n e)
     by_stage Live e = let z = ((legal_begins p plan es t is s site).live e).0 in omega arith
-    by_stage Gone e = let c = rows_tell p plan es t is s site in one_of (is_some (row t s).home) (registers s es) (skips_over p s es) c.came (c.skipped ∙ ap (λ (g : Stage). if (is_gone g && not (is_some (row t s).home)) then 1 else 0) e)
+    by_stage Gone e = let c = rows_report p plan es t is s site in one_of (is_some (row t s).home) (registers s es) (skips_over p s es) c.came (c.skipped ∙ ap (λ (g : Stage). if (is_gone g && not (is_some (row t s).home)) then 1 else 0) e)
 
 none_of : (g : Stage) (h : Bool) (r k : ℕ) → r ≡ (if (is_gone g && h) then 1 else 0) → k ≡ (if (is_gone g && not h) then 1 else 0) → 1 ≤ r + k → g ≡ Gone
 none_of New h r k a b some = absurd (omega arith)
@@ -40,4 +40,4 @@ none_of Gone h r k a b some = refl
 
 -- A site that was unregistered or skipped is gone.
 pub went : (p : Plan) → IsPlan p → (es : List Entry) (t : TableState) → Reaches p es t → (s : ℕ) → IsSite p s → 1 ≤ unregisters s es + skips_over p s es → (row t s).stage ≡ Gone
-went p plan es t is s site some = let c = rows_tell p plan es t is s site in none_of (row t s).stage (is_some (row t s).home) (unregisters s es) (skips_over p s es) c.went c.skipped some
+went p plan es t is s site some = let c = rows_report p plan es t is s site in none_of (row t s).stage (is_some (row t s).home) (unregisters s es) (skips_over p s es) c.went c.skipped some

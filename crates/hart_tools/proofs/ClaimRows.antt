@@ -27,8 +27,8 @@ take_twice n xs ys = elim (cases_lt (length xs) n) [
   | inl below ↦ ap (λ l. take n (l ++ ys)) (take_all n xs (omega (arith, below)))
   | inr above ↦
       let long : n ≤ length xs = above in
-      let whole : length (take n xs) ≡ n = length-take-le n xs long in
-      take-append-le n (take n xs) ys (omega (arith, whole)) ∙ take_all n (take n xs) (omega (arith, whole)) ∙ sym (take-append-le n xs ys long)
+      let completed : length (take n xs) ≡ n = length-take-le n xs long in
+      take-append-le n (take n xs) ys (omega (arith, completed)) ∙ take_all n (take n xs) (omega (arith, completed)) ∙ sym (take-append-le n xs ys long)
 ]
 
 -- ---- the counters of one more site

@@ -3,7 +3,7 @@ use Rattle.std.proofs.Common.{◌≡◌, ◌∙◌, List, [], ◌∷◌, ◌++�
 use Rattle.std.proofs.lemmas.List.{reverse-append, append_assoc, map-append}
 use Rattle.claim_words.specs.declared.seat.ClaimSeat.{ClaimSeat}
 use Rattle.claim_words.specs.declared.table.ClaimTable.{ClaimTable}
-use Rattle.claim_words.specs.Seats.{kin, IsOf, AreOf}
+use Rattle.claim_words.specs.Seats.{identity, IsOf, AreOf}
 
 -- The last one is taken, and put behind those taken before.
 pub given : {Y T X : Type 0} (g : Y → X) (f : T → X) (ys ys' : List Y) (y : Y) (ts ts' : List T) (t : T) (all : List X) → ys ≡ ys' ++ y ∷ [] → ts' ≡ ts ++ t ∷ [] → f t ≡ g y
@@ -26,6 +26,6 @@ taken h f hs hs' x ts ts' t all more split same before =
     ∙ before
 
 -- If all seats are of a table, those before the last are, and so is the last.
-pub split_of : (t : ClaimTable) (ss : List ClaimSeat) (s : ClaimSeat) → AreOf t (map kin (ss ++ s ∷ [])) → AreOf t (map kin ss) × IsOf t (kin s)
+pub split_of : (t : ClaimTable) (ss : List ClaimSeat) (s : ClaimSeat) → AreOf t (map identity (ss ++ s ∷ [])) → AreOf t (map identity ss) × IsOf t (identity s)
 split_of t [] s are = (tt, are.0)
 split_of t (x ∷ ss) s are = let rest = split_of t ss s are.1 in ((are.0, rest.0), rest.1)

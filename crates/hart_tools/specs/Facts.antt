@@ -1,14 +1,14 @@
 -- The law that fitting tools is a proposition.
 use denote.Struct.Props.{props}
-use Rattle.hart_tools.specs.declared.grip.Grip.{Grip}
-use Rattle.hart_tools.specs.declared.grip.Grip.TheVariants.{Base, Pool, Team, Pipe, Nobody}
-use Rattle.hart_tools.specs.Kins.{ToolKins}
+use Rattle.hart_tools.specs.declared.scheduler_ref.SchedulerRef.{SchedulerRef}
+use Rattle.hart_tools.specs.declared.scheduler_ref.SchedulerRef.TheVariants.{Base, Pool, Team, Pipe, NoScheduler}
+use Rattle.hart_tools.specs.Identities.{ToolIdentities}
 use Rattle.hart_tools.specs.Places.{Fits}
 
--- Whether a grip fits the tools is a proposition: it has at most one proof.
-pub fits_is_fact : (k : ToolKins) (grip : Grip) → IsProp (Fits k grip)
+-- Whether a reference to a scheduler fits the tools is a proposition: it has at most one proof.
+pub fits_is_fact : (k : ToolIdentities) (scheduler_ref : SchedulerRef) → IsProp (Fits k scheduler_ref)
 fits_is_fact k (Base base) = hlevel props
 fits_is_fact k (Pool place) = hlevel props
 fits_is_fact k (Team place) = hlevel props
 fits_is_fact k (Pipe pipe) = hlevel props
-fits_is_fact k Nobody = hlevel props
+fits_is_fact k NoScheduler = hlevel props

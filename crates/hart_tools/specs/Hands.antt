@@ -4,17 +4,17 @@ use Rattle.hart_port.specs.PortView.{PortView, entered}
 use Rattle.join_book.specs.Books.{IsFull}
 use Rattle.loop_team.specs.Teams.{IsOver}
 use Rattle.pipe_sched.specs.Slots.{IsFull as IsDone}
-use Rattle.hart_tools.specs.Kins.{kins_of}
+use Rattle.hart_tools.specs.Identities.{kins_of}
 use Rattle.hart_tools.specs.declared.hand.Hand.{Hand}
-use Rattle.hart_tools.specs.declared.whole.Whole.{Whole}
-use Rattle.hart_tools.specs.declared.whole.Whole.TheVariants.{Pool, Team, Pipe}
+use Rattle.hart_tools.specs.declared.completed.Completed.{Completed}
+use Rattle.hart_tools.specs.declared.completed.Completed.TheVariants.{Pool, Team, Pipe}
 
 -- The hand is on the same scheduler, with the deques and the seat of the same hart.
 pub record IsSameHand {R : Type 0} (before after : Hand R) : Type 0 where
   pub rows : after.rows.ghost_name ≡ before.rows.ghost_name
   pub seat : after.seat.ghost_name ≡ before.seat.ghost_name
-  pub kins : kins_of after.rows.now after.seat.now ≡ kins_of before.rows.now before.seat.now
-  pub grip : after.grip ≡ before.grip
+  pub identities : kins_of after.rows.now after.seat.now ≡ kins_of before.rows.now before.seat.now
+  pub scheduler_ref : after.scheduler_ref ≡ before.scheduler_ref
 
 -- The hart is inside if it got a task, and otherwise its owner is unchanged.
 abbrev pub HasTried : {X : Type 0} → PortView → ℕ → Option X → PortView → Type 0
@@ -22,7 +22,7 @@ HasTried v s (Some told) after = after ≡ entered v s
 HasTried v s None after = after ≡ v
 
 -- Every slot or piece is filled or failed, or the team is done.
-abbrev pub IsWhole : Whole → Type 0
-IsWhole (Pool pool) = IsFull pool.book
-IsWhole (Team team) = IsOver team
-IsWhole (Pipe pipe) = IsDone pipe.state
+abbrev pub IsCompleted : Completed → Type 0
+IsCompleted (Pool pool) = IsFull pool.book
+IsCompleted (Team team) = IsOver team
+IsCompleted (Pipe pipe) = IsDone pipe.state

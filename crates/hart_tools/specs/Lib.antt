@@ -1,5 +1,5 @@
 pub mod ClaimRows
-pub mod Kins
+pub mod Identities
 pub mod Places
 pub mod Hands
 pub mod Told

@@ -8,5 +8,5 @@ use Rattle.claim_words.specs.Seats as seats
 
 -- The deques are all deques of one call, and the seats all seats of the table, in the order of the harts.
 pub record AreTools (t : ClaimTable) (rs : List HartRows) (ss : List ClaimSeat) : Type 0 where
-  pub rows : rows.AreAll (map rows.kin rs)
-  pub seats : seats.AreAll t (map seats.kin ss)
+  pub rows : rows.AreAll (map rows.identity rs)
+  pub seats : seats.AreAll t (map seats.identity ss)

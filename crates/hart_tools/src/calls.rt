@@ -4,8 +4,8 @@ ghost use Rattle.sched_api.specs.declared.hearing.Told.{Told};
 ghost use Rattle.hart_tools.specs.Hands.{IsSameHand};
 ghost use Rattle.hart_tools.specs.Told.{told_by};
 
-use crate::grip::Grip;
 use crate::hand::Hand;
+use crate::scheduler_ref::SchedulerRef;
 use crate::work::{Work, with_job};
 use array_jobs::Job;
 use base_sched::SharedBaseHand;
@@ -48,7 +48,7 @@ impl<'r, 's, 'b, 'p, R: Wait + 'b> Scheduler for Hand<'r, 's, 'b, 'p, R> {
     ghost use Rattle.hart_tools.specs.Places.{site_at};
     ghost use Rattle.hart_tools.specs.Hands.{IsSameHand};
 
-    ghost site_of = { λ hand. site_at hand.grip };
+    ghost site_of = { λ hand. site_at hand.scheduler_ref };
 
     // Why no more: contracts know only the type of lock-protected state.
     ghost answers = { λ before _ after. IsSameHand before after };
@@ -58,7 +58,7 @@ impl<'r, 's, 'b, 'p, R: Wait + 'b> Scheduler for Hand<'r, 's, 'b, 'p, R> {
     ghost takes = { λ before _ _ after. IsSameHand before after };
 
     fn site(&self) -> u16 {
-        self.grip.site()
+        self.scheduler_ref.site()
     }
 
     fn register(&mut self, hold: &'b R, child: u16) -> HandHeard {
@@ -78,13 +78,13 @@ impl<'r, 's, 'b, 'p, R: Wait + 'b> Scheduler for Hand<'r, 's, 'b, 'p, R> {
     }
 
     fn enter(&mut self, hold: &'b R) -> Next<Option<Job<'p>>> {
-        let grip = self.grip;
-        match grip {
-            Grip::Base(base) => with_job(SharedBaseHand::new(base).enter(hold)),
-            Grip::Pool(place) => with_job(place.hand(&mut *self.rows).enter(hold)),
-            Grip::Team(place) => with_job(place.hand(&mut *self.seat).enter(hold)),
-            Grip::Pipe(pipe) => with_job(PipeHand::new(pipe).enter(hold)),
-            Grip::Nobody => Next::Nothing,
+        let scheduler_ref = self.scheduler_ref;
+        match scheduler_ref {
+            SchedulerRef::Base(base) => with_job(SharedBaseHand::new(base).enter(hold)),
+            SchedulerRef::Pool(place) => with_job(place.hand(&mut *self.rows).enter(hold)),
+            SchedulerRef::Team(place) => with_job(place.hand(&mut *self.seat).enter(hold)),
+            SchedulerRef::Pipe(pipe) => with_job(PipeHand::new(pipe).enter(hold)),
+            SchedulerRef::NoScheduler => Next::Nothing,
         }
     }
 
@@ -103,13 +103,31 @@ impl<'r, 's, 'b, 'p, R: Wait + 'b> Hand<'r, 's, 'b, 'p, R> {
         ensures same { IsSameHand self.old self.new }
         ensures told { result ≡ told_by call child count }
     {
-        let grip = self.grip;
-        let told = match grip {
-            Grip::Base(base) => tell(&mut SharedBaseHand::new(base), hold, call, child, count),
-            Grip::Pool(place) => tell(&mut place.hand(&mut *self.rows), hold, call, child, count),
-            Grip::Team(place) => tell(&mut place.hand(&mut *self.seat), hold, call, child, count),
-            Grip::Pipe(pipe) => tell(&mut PipeHand::new(pipe), hold, call, child, count),
-            Grip::Nobody => told_by(call, child, count),
+        let scheduler_ref = self.scheduler_ref;
+        let told = match scheduler_ref {
+            SchedulerRef::Base(base) => tell(
+                &mut SharedBaseHand::new(base),
+                hold,
+                call,
+                child,
+                count,
+            ),
+            SchedulerRef::Pool(place) => tell(
+                &mut place.hand(&mut *self.rows),
+                hold,
+                call,
+                child,
+                count,
+            ),
+            SchedulerRef::Team(place) => tell(
+                &mut place.hand(&mut *self.seat),
+                hold,
+                call,
+                child,
+                count,
+            ),
+            SchedulerRef::Pipe(pipe) => tell(&mut PipeHand::new(pipe), hold, call, child, count),
+            SchedulerRef::NoScheduler => told_by(call, child, count),
         };
         HandHeard { told }
     }

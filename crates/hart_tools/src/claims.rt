@@ -1,7 +1,7 @@
 //! The claim counters of a run, and the counters of each site.
 ghost use Rattle.std.specs.Prelude.{◌≡◌, ◌≤◌, ℕ, IfOk, OnOk, None, ◌++◌, length, map, replicate, take, vec_len};
 ghost use Rattle.std.specs.Option.{ForSome};
-ghost use Rattle.claim_words.specs.Seats.{AreAll, kin};
+ghost use Rattle.claim_words.specs.Seats.{AreAll, identity};
 ghost use Rattle.claim_words.specs.declared.table.TheConstants.{MOST_ROWS};
 ghost use Rattle.loop_team.specs.Rows.{RowsFit};
 ghost use Rattle.hart_tools.specs.ClaimRows.{claim_rows, shape_of, at_site, AreBehind, IsFirstRow};
@@ -54,7 +54,7 @@ impl Claims {
     ) -> Result<(Claims, Vec<ClaimSeat>), AllocError>
         requires { 1 ≤ harts }
         ensures count { IfOk result (λ t. vec_len t.1 ≡ harts) }
-        ensures all { IfOk result (λ t. AreAll t.0.table (map kin t.1.items)) }
+        ensures all { IfOk result (λ t. AreAll t.0.table (map identity t.1.items)) }
         ensures rows { IfOk result (λ t. t.0.table.counts.items ≡ claim_rows accepted.now.shapes) }
         ensures sites { IfOk result (λ t. map shape_of t.0.sites.items ≡ accepted.now.shapes) }
     {

@@ -1,10 +1,10 @@
 //! A hart's hand on any scheduler that harts share.
 ghost use Rattle.std.specs.Prelude.{◌≡◌};
-ghost use Rattle.hart_tools.specs.Kins.{kins_of};
+ghost use Rattle.hart_tools.specs.Identities.{kins_of};
 ghost use Rattle.hart_tools.specs.Places.{Fits};
 ghost use Rattle.hart_tools.specs.Facts.{fits_is_fact};
 
-use crate::grip::Grip;
+use crate::scheduler_ref::SchedulerRef;
 use deque_rows::HartRows;
 use loop_team::ClaimSeat;
 use std::marker::PhantomData;
@@ -17,9 +17,9 @@ use std::marker::PhantomData;
 pub struct Hand<'r, 's, 'b, 'p, R> {
     pub rows: &'r mut HartRows,
     pub seat: &'s mut ClaimSeat,
-    pub grip: Grip<'b, 'p>,
+    pub scheduler_ref: SchedulerRef<'b, 'p>,
     pub of: PhantomData<R>,
-    pub ghost fits: { Fits (kins_of rows.now seat.now) grip } by { fits_is_fact (kins_of rows.now seat.now) grip },
+    pub ghost fits: { Fits (kins_of rows.now seat.now) scheduler_ref } by { fits_is_fact (kins_of rows.now seat.now) scheduler_ref },
 }
 
 impl<'r, 's, 'b, 'p, R> Drop for Hand<'r, 's, 'b, 'p, R> {
@@ -30,29 +30,29 @@ impl<'r, 's, 'b, 'p, R> Drop for Hand<'r, 's, 'b, 'p, R> {
         let Hand {
             rows: _,
             seat: _,
-            grip: _,
+            scheduler_ref: _,
             of: _,
         } = self;
     }
 }
 
 impl<'r, 's, 'b, 'p, R> Hand<'r, 's, 'b, 'p, R> {
-    /// A hand on this grip. Does not block.
+    /// A hand on this scheduler. Does not block.
     pub fn new(
         rows: &'r mut HartRows,
         seat: &'s mut ClaimSeat,
-        grip: Grip<'b, 'p>,
+        scheduler_ref: SchedulerRef<'b, 'p>,
     ) -> Hand<'r, 's, 'b, 'p, R>
-        requires { Fits (kins_of rows.old seat.old) grip }
+        requires { Fits (kins_of rows.old seat.old) scheduler_ref }
         ensures names { (result.rows.ghost_name ≡ rows.entry.ghost_name)
             × (result.seat.ghost_name ≡ seat.entry.ghost_name) }
         ensures lent { (result.rows.now ≡ rows.old) × (result.seat.now ≡ seat.old) }
-        ensures grip { result.grip ≡ grip.entry }
+        ensures scheduler_ref { result.scheduler_ref ≡ scheduler_ref.entry }
     {
         Hand {
             rows,
             seat,
-            grip,
+            scheduler_ref,
             of: PhantomData,
         }
     }

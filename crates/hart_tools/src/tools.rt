@@ -1,10 +1,10 @@
 //! The tools of a hart for all sites: its deques, its seat, and the counters of each site.
 ghost use Rattle.std.specs.Prelude.{◌≡◌, ◌≢◌, ◌<◌, ◌≤◌, ◌+◌, ◌↔◌, ◌⊎◌, false, None, IsTrue, IfOk, IfSome, length, map, reverse, vec_len};
 ghost use Rattle.std.specs.Option.{ForSome};
-ghost use Rattle.deque_rows.specs.Rows.{IsLevel, home_log, row_room, kin as rows_kin};
-ghost use Rattle.claim_words.specs.Seats.{IsOf, kin as seat_kin};
+ghost use Rattle.deque_rows.specs.Rows.{IsLevel, home_log, row_room, identity as rows_identity};
+ghost use Rattle.claim_words.specs.Seats.{IsOf, identity as seat_identity};
 ghost use Rattle.hart_tools.specs.Places.{Fits, PoolFits, TeamFits, site_at};
-ghost use Rattle.hart_tools.specs.Hands.{HasTried, IsWhole};
+ghost use Rattle.hart_tools.specs.Hands.{HasTried, IsCompleted};
 ghost use Rattle.hart_tools.specs.Stocks.{AreTools};
 ghost use Rattle.hart_tools.specs.Told.{inside};
 ghost use Rattle.hart_port.specs.Count.{Rose};
@@ -13,9 +13,9 @@ ghost use Rattle.sched_api.specs.Calls.{RoseUnlessLent};
 ghost use Rattle.transfer_table.specs.Plan.{IsSite, parent as parent_of};
 
 use crate::claims::Claims;
-use crate::grip::{Grip, PoolPlace, TeamPlace};
+use crate::completed::Completed;
 use crate::hand::Hand;
-use crate::whole::Whole;
+use crate::scheduler_ref::{PoolPlace, SchedulerRef, TeamPlace};
 use array_jobs::{Job, Piece};
 use crossbeam_utils::Backoff;
 use deque_rows::HartRows;
@@ -46,25 +46,25 @@ pub struct Tools<'t> {
 
 impl<'t> Model for Tools<'t> {
     ghost use Rattle.std.specs.Prelude.{◌≡◌};
-    ghost use Rattle.claim_words.specs.Seats.{IsOf, kin as seat_kin};
-    ghost use Rattle.deque_rows.specs.Rows.{kin as rows_kin};
-    ghost use Rattle.hart_tools.specs.Kins.{ToolKins, kins_of};
+    ghost use Rattle.claim_words.specs.Seats.{IsOf, identity as seat_identity};
+    ghost use Rattle.deque_rows.specs.Rows.{identity as rows_identity};
+    ghost use Rattle.hart_tools.specs.Identities.{ToolIdentities, kins_of};
 
-    ghost Value = { ToolKins };
+    ghost Value = { ToolIdentities };
 
     ghost view = { λ t. kins_of t.rows t.seat };
 
-    ghost invariant = { λ t. IsOf t.claims.now.table (seat_kin t.seat)
-        × ((rows_kin t.rows).harts ≡ t.harts) };
+    ghost invariant = { λ t. IsOf t.claims.now.table (seat_identity t.seat)
+        × ((rows_identity t.rows).harts ≡ t.harts) };
 }
 
 impl<'t> Tools<'t> {
     /// The tools that a hart is lent for a run of so many harts.
     fn new(rows: HartRows, seat: ClaimSeat, claims: &'t Claims, harts: u8) -> Tools<'t>
-        requires harts { (rows_kin rows).harts ≡ harts }
-        requires of { IsOf claims.now.table (seat_kin seat) }
-        ensures rows { result.rows ≡ rows_kin rows }
-        ensures seat { result.seat ≡ seat_kin seat }
+        requires harts { (rows_identity rows).harts ≡ harts }
+        requires of { IsOf claims.now.table (seat_identity seat) }
+        ensures rows { result.rows ≡ rows_identity rows }
+        ensures seat { result.seat ≡ seat_identity seat }
     {
         Tools {
             rows,
@@ -76,8 +76,8 @@ impl<'t> Tools<'t> {
 
     /// The deques and the seat.
     pub fn into_parts(self) -> (HartRows, ClaimSeat)
-        ensures rows { rows_kin result.0 ≡ self.entry.rows }
-        ensures seat { seat_kin result.1 ≡ self.entry.seat }
+        ensures rows { rows_identity result.0 ≡ self.entry.rows }
+        ensures seat { seat_identity result.1 ≡ self.entry.seat }
     {
         let Tools {
             rows,
@@ -139,23 +139,27 @@ impl<'t> Tools<'t> {
         })
     }
 
-    /// The grip on a scheduler that harts share, at a site of this level.
-    pub fn grip<'b, 'p>(&self, shared: &'b SharedSite<'p>, level: u8) -> Grip<'b, 'p>
+    /// The reference to a scheduler that harts share, at a site of this level.
+    pub fn scheduler_ref<'b, 'p>(
+        &self,
+        shared: &'b SharedSite<'p>,
+        level: u8,
+    ) -> SchedulerRef<'b, 'p>
     where
         't: 'b,
         ensures { Fits self.now result }
     {
         match shared {
             SharedSite::Pool { home, pool } => match self.pool_place(pool, *home, level) {
-                Some(place) => Grip::Pool(place),
-                None => Grip::Nobody,
+                Some(place) => SchedulerRef::Pool(place),
+                None => SchedulerRef::NoScheduler,
             },
             SharedSite::Team(team) => match self.team_place(team) {
-                Some(place) => Grip::Team(place),
-                None => Grip::Nobody,
+                Some(place) => SchedulerRef::Team(place),
+                None => SchedulerRef::NoScheduler,
             },
-            SharedSite::Pipe(pipe) => Grip::Pipe(pipe),
-            SharedSite::Alone => Grip::Nobody,
+            SharedSite::Pipe(pipe) => SchedulerRef::Pipe(pipe),
+            SharedSite::Alone => SchedulerRef::NoScheduler,
         }
     }
 
@@ -167,19 +171,19 @@ impl<'t> Tools<'t> {
     pub fn register<'b, P: Port, R: Wait + 'b>(
         &mut self,
         rt: &'b R,
-        grip: Grip<'b, '_>,
+        scheduler_ref: SchedulerRef<'b, '_>,
         port: &mut P,
         hold: P::Hold,
         child: u16,
     ) -> Result<(), Taken>
-        requires fits { Fits self.old grip }
+        requires fits { Fits self.old scheduler_ref }
         requires known { IsSite (P.seen port.old).plan child }
         requires child { (P.seen port.old).owner ≡ parent_of (P.seen port.old).plan child }
         ensures does { Registers (P.seen port.old) child result (P.seen port.new) }
         ensures kept { IsPortView (P.seen port.new) }
         ensures tools { self.new ≡ self.old }
     {
-        let mut hand = Hand::new(&mut self.rows, &mut self.seat, grip);
+        let mut hand = Hand::new(&mut self.rows, &mut self.seat, scheduler_ref);
         sched_register(port, hold, &mut hand, rt, child)?;
         Ok(())
     }
@@ -188,20 +192,20 @@ impl<'t> Tools<'t> {
     pub fn request<'b, P: Port, R: Wait + 'b>(
         &mut self,
         rt: &'b R,
-        grip: Grip<'b, '_>,
+        scheduler_ref: SchedulerRef<'b, '_>,
         port: &mut P,
         hold: P::Hold,
         child: u16,
         count: u8,
     )
-        requires fits { Fits self.old grip }
+        requires fits { Fits self.old scheduler_ref }
         requires known { IsSite (P.seen port.old).plan child }
         requires may { MayRequest (P.seen port.old) child count }
         ensures does { P.seen port.new ≡ requested_by (P.seen port.old) child count }
         ensures kept { IsPortView (P.seen port.new) }
         ensures tools { self.new ≡ self.old }
     {
-        let mut hand = Hand::new(&mut self.rows, &mut self.seat, grip);
+        let mut hand = Hand::new(&mut self.rows, &mut self.seat, scheduler_ref);
         sched_request(port, hold, &mut hand, rt, child, count);
     }
 
@@ -209,17 +213,17 @@ impl<'t> Tools<'t> {
     pub fn unregister<'b, P: Port, R: Wait + 'b>(
         &mut self,
         rt: &'b R,
-        grip: Grip<'b, '_>,
+        scheduler_ref: SchedulerRef<'b, '_>,
         port: &mut P,
         hold: P::Hold,
     )
-        requires fits { Fits self.old grip }
+        requires fits { Fits self.old scheduler_ref }
         requires may { MayUnregister (P.seen port.old) }
         ensures does { P.seen port.new ≡ unregistered (P.seen port.old) }
         ensures kept { IsPortView (P.seen port.new) }
         ensures tools { self.new ≡ self.old }
     {
-        let mut hand = Hand::new(&mut self.rows, &mut self.seat, grip);
+        let mut hand = Hand::new(&mut self.rows, &mut self.seat, scheduler_ref);
         sched_unregister(port, hold, &mut hand, rt);
     }
 
@@ -227,18 +231,18 @@ impl<'t> Tools<'t> {
     pub fn give_back<'b, P: Port, R: Wait + 'b>(
         &mut self,
         rt: &'b R,
-        grip: Grip<'b, '_>,
+        scheduler_ref: SchedulerRef<'b, '_>,
         port: &mut P,
         hold: P::Hold,
     )
-        requires fits { Fits self.old grip }
+        requires fits { Fits self.old scheduler_ref }
         requires inside { 0 < (P.seen port.old).owner }
         requires guest { is_in (P.seen port.old).homes (P.seen port.old).owner ≡ false }
         ensures does { P.seen port.new ≡ yielded (P.seen port.old) }
         ensures kept { IsPortView (P.seen port.new) }
         ensures tools { self.new ≡ self.old }
     {
-        let mut hand = Hand::new(&mut self.rows, &mut self.seat, grip);
+        let mut hand = Hand::new(&mut self.rows, &mut self.seat, scheduler_ref);
         sched_yield(port, hold, &mut hand, rt);
     }
 
@@ -247,30 +251,30 @@ impl<'t> Tools<'t> {
     pub fn enter<'b, 'p, P: Port, R: Wait + 'b>(
         &mut self,
         rt: &'b R,
-        grip: Grip<'b, 'p>,
+        scheduler_ref: SchedulerRef<'b, 'p>,
         port: &mut P,
         hold: P::Hold,
         child: u16,
     ) -> Option<Next<Job<'p>>>
-        requires fits { Fits self.old grip }
+        requires fits { Fits self.old scheduler_ref }
         requires known { IsSite (P.seen port.old).plan child }
         requires child { (P.seen port.old).owner ≡ parent_of (P.seen port.old).plan child }
         ensures does { HasTried (P.seen port.old) child result (P.seen port.new) }
         ensures count { P.refused port.old ≤ P.refused port.new }
         ensures refused { result ≡ None → Rose (P.refused port.old) (P.refused port.new)
-            ⊎ (site_at grip.entry ≢ child) }
+            ⊎ (site_at scheduler_ref.entry ≢ child) }
         ensures kept { IsPortView (P.seen port.new) }
         ensures tools { self.new ≡ self.old }
     {
         // Why: reading the owner makes the port's invariant known.
         let _ = port.owner();
-        if grip.site() != child {
+        if scheduler_ref.site() != child {
             return None;
         }
         let backoff = Backoff::new();
         'tries: for _ in rt.forever() {
-            match self.try_once(rt, grip, port, hold) {
-                Lent::Inside(Next::Run(None)) => return Some(self.next(rt, grip, false)),
+            match self.try_once(rt, scheduler_ref, port, hold) {
+                Lent::Inside(Next::Run(None)) => return Some(self.next(rt, scheduler_ref, false)),
                 Lent::Inside(Next::Run(Some(job))) => return Some(Next::Run(job)),
                 Lent::Inside(Next::Lend(child)) => return Some(Next::Lend(child)),
                 Lent::Inside(Next::Nothing) => return Some(Next::Nothing),
@@ -285,21 +289,21 @@ impl<'t> Tools<'t> {
     fn try_once<'b, 'p, P: Port, R: Wait + 'b>(
         &mut self,
         rt: &'b R,
-        grip: Grip<'b, 'p>,
+        scheduler_ref: SchedulerRef<'b, 'p>,
         port: &mut P,
         hold: P::Hold,
     ) -> Lent<Option<Job<'p>>>
-        requires fits { Fits self.old grip }
-        requires known { IsSite (P.seen port.old).plan (site_at grip) }
+        requires fits { Fits self.old scheduler_ref }
+        requires known { IsSite (P.seen port.old).plan (site_at scheduler_ref) }
         requires child { (P.seen port.old).owner
-            ≡ parent_of (P.seen port.old).plan (site_at grip) }
-        ensures does { HasTried (P.seen port.old) (site_at grip.entry) (inside result)
+            ≡ parent_of (P.seen port.old).plan (site_at scheduler_ref) }
+        ensures does { HasTried (P.seen port.old) (site_at scheduler_ref.entry) (inside result)
             (P.seen port.new) }
         ensures count { RoseUnlessLent result (P.refused port.old) (P.refused port.new) }
         ensures kept { IsPortView (P.seen port.new) }
         ensures tools { self.new ≡ self.old }
     {
-        let mut hand = Hand::new(&mut self.rows, &mut self.seat, grip);
+        let mut hand = Hand::new(&mut self.rows, &mut self.seat, scheduler_ref);
         sched_enter(port, hold, &mut hand, rt)
     }
 
@@ -308,19 +312,19 @@ impl<'t> Tools<'t> {
     pub fn next<'b, 'p, R: Wait + 'b>(
         &mut self,
         rt: &'b R,
-        grip: Grip<'b, 'p>,
+        scheduler_ref: SchedulerRef<'b, 'p>,
         is_home: bool,
     ) -> Next<Job<'p>>
-        requires { Fits self.old grip }
+        requires { Fits self.old scheduler_ref }
         ensures { self.new ≡ self.old }
     {
-        let is_guest = !is_home && !matches!(grip, Grip::Base(_));
+        let is_guest = !is_home && !matches!(scheduler_ref, SchedulerRef::Base(_));
         let backoff = Backoff::new();
         'looks: for _ in rt.forever() {
-            if self.is_over(rt, grip, is_home) {
+            if self.is_over(rt, scheduler_ref, is_home) {
                 return Next::Nothing;
             }
-            match self.look(rt, grip) {
+            match self.look(rt, scheduler_ref) {
                 Next::Run(Some(job)) => return Next::Run(job),
                 Next::Run(None) => {}
                 Next::Lend(child) => return Next::Lend(child),
@@ -332,52 +336,66 @@ impl<'t> Tools<'t> {
     }
 
     // The action that the scheduler returns for a hart inside.
-    fn look<'b, 'p, R: Wait + 'b>(&mut self, rt: &'b R, grip: Grip<'b, 'p>) -> Next<Option<Job<'p>>>
-        requires { Fits self.old grip }
+    fn look<'b, 'p, R: Wait + 'b>(
+        &mut self,
+        rt: &'b R,
+        scheduler_ref: SchedulerRef<'b, 'p>,
+    ) -> Next<Option<Job<'p>>>
+        requires { Fits self.old scheduler_ref }
         ensures { self.new ≡ self.old }
     {
-        let mut hand = Hand::new(&mut self.rows, &mut self.seat, grip);
+        let mut hand = Hand::new(&mut self.rows, &mut self.seat, scheduler_ref);
         sched_reenter(&mut hand, rt)
     }
 
     // Whether a hart has to leave although it might get more: the base if it is shut, and the home if the work of its site is
     // done. It is checked before each task.
-    fn is_over<'b, R: Wait + 'b>(&mut self, rt: &'b R, grip: Grip<'b, '_>, is_home: bool) -> bool
-        requires { Fits self.old grip }
+    fn is_over<'b, R: Wait + 'b>(
+        &mut self,
+        rt: &'b R,
+        scheduler_ref: SchedulerRef<'b, '_>,
+        is_home: bool,
+    ) -> bool
+        requires { Fits self.old scheduler_ref }
         ensures { self.new ≡ self.old }
     {
-        match grip {
-            Grip::Base(base) => base.is_shut(),
-            Grip::Pool(place) => is_home && place.hand::<R>(&mut self.rows).is_full(rt),
-            Grip::Team(place) => is_home && place.hand::<R>(&mut self.seat).is_over(rt),
-            Grip::Pipe(pipe) => is_home && PipeHand::<R>::new(pipe).is_full(rt),
-            Grip::Nobody => true,
+        match scheduler_ref {
+            SchedulerRef::Base(base) => base.is_shut(),
+            SchedulerRef::Pool(place) => is_home && place.hand::<R>(&mut self.rows).is_full(rt),
+            SchedulerRef::Team(place) => is_home && place.hand::<R>(&mut self.seat).is_over(rt),
+            SchedulerRef::Pipe(pipe) => is_home && PipeHand::<R>::new(pipe).is_full(rt),
+            SchedulerRef::NoScheduler => true,
         }
     }
 
     /// Offers the pieces of the site to all harts. Those of a team and of a pipe are always offered.
-    pub fn offer<'b, R: Wait + 'b>(&mut self, rt: &'b R, grip: Grip<'b, '_>)
-        requires { Fits self.old grip }
+    pub fn offer<'b, R: Wait + 'b>(&mut self, rt: &'b R, scheduler_ref: SchedulerRef<'b, '_>)
+        requires { Fits self.old scheduler_ref }
         ensures { self.new ≡ self.old }
     {
-        if let Grip::Pool(place) = grip {
+        if let SchedulerRef::Pool(place) = scheduler_ref {
             offer_in(rt, place, &mut self.rows);
         }
     }
 
     /// Gives the scheduler a piece that is done. A piece that is a stranger to the scheduler is dropped.
-    pub fn deposit<'b, 'p, R: Wait + 'b>(&mut self, rt: &'b R, grip: Grip<'b, 'p>, piece: Piece<'p>)
-        requires { Fits self.old grip }
+    pub fn deposit<'b, 'p, R: Wait + 'b>(
+        &mut self,
+        rt: &'b R,
+        scheduler_ref: SchedulerRef<'b, 'p>,
+        piece: Piece<'p>,
+    )
+        requires { Fits self.old scheduler_ref }
         ensures { self.new ≡ self.old }
     {
-        match grip {
-            Grip::Pool(place) => {
+        match scheduler_ref {
+            SchedulerRef::Pool(place) => {
                 let _ = place.hand::<R>(&mut self.rows).deposit(rt, piece);
             }
-            Grip::Team(place) => {
+            SchedulerRef::Team(place) => {
                 let _ = place.hand::<R>(&mut self.seat).arrive(rt, piece);
             }
-            Grip::Pipe(pipe) => {
+            SchedulerRef::Pipe(pipe) => {
                 let _ = PipeHand::<R>::new(pipe).deposit(rt, piece);
             }
             _ => {}
@@ -386,30 +404,40 @@ impl<'t> Tools<'t> {
 
     /// Reports that an allocation failed for the piece of this phase at this index. A pool has one phase, and a team takes its
     /// current phase.
-    pub fn fail<'b, R: Wait + 'b>(&mut self, rt: &'b R, grip: Grip<'b, '_>, phase: u8, place: u8)
-        requires { Fits self.old grip }
+    pub fn fail<'b, R: Wait + 'b>(
+        &mut self,
+        rt: &'b R,
+        scheduler_ref: SchedulerRef<'b, '_>,
+        phase: u8,
+        place: u8,
+    )
+        requires { Fits self.old scheduler_ref }
         ensures { self.new ≡ self.old }
     {
-        match grip {
-            Grip::Pool(pool) => pool.hand::<R>(&mut self.rows).fail(rt, place),
-            Grip::Team(team) => team.hand::<R>(&mut self.seat).fail(rt, place),
-            Grip::Pipe(pipe) => PipeHand::<R>::new(pipe).fail(rt, place, phase),
+        match scheduler_ref {
+            SchedulerRef::Pool(pool) => pool.hand::<R>(&mut self.rows).fail(rt, place),
+            SchedulerRef::Team(team) => team.hand::<R>(&mut self.seat).fail(rt, place),
+            SchedulerRef::Pipe(pipe) => PipeHand::<R>::new(pipe).fail(rt, place, phase),
             _ => {}
         }
     }
 
     /// Whether a piece failed, so that sites inside may be missing. They may also be missing if the hart computes the construct
-    /// by itself: true for `Nobody`.
-    pub fn has_failed<'b, R: Wait + 'b>(&mut self, rt: &'b R, grip: Grip<'b, '_>) -> bool
-        requires { Fits self.old grip }
+    /// by itself: true for `NoScheduler`.
+    pub fn has_failed<'b, R: Wait + 'b>(
+        &mut self,
+        rt: &'b R,
+        scheduler_ref: SchedulerRef<'b, '_>,
+    ) -> bool
+        requires { Fits self.old scheduler_ref }
         ensures { self.new ≡ self.old }
     {
-        match grip {
-            Grip::Base(_) => false,
-            Grip::Pool(place) => place.hand::<R>(&mut self.rows).has_failed(rt),
-            Grip::Team(place) => place.hand::<R>(&mut self.seat).has_failed(rt),
-            Grip::Pipe(pipe) => PipeHand::<R>::new(pipe).has_failed(rt),
-            Grip::Nobody => true,
+        match scheduler_ref {
+            SchedulerRef::Base(_) => false,
+            SchedulerRef::Pool(place) => place.hand::<R>(&mut self.rows).has_failed(rt),
+            SchedulerRef::Team(place) => place.hand::<R>(&mut self.seat).has_failed(rt),
+            SchedulerRef::Pipe(pipe) => PipeHand::<R>::new(pipe).has_failed(rt),
+            SchedulerRef::NoScheduler => true,
         }
     }
 
@@ -417,22 +445,24 @@ impl<'t> Tools<'t> {
     pub fn take_out<'b, 'p, R: Wait + 'b>(
         &mut self,
         rt: &'b R,
-        grip: Grip<'b, 'p>,
-    ) -> Option<Whole<'p>>
-        requires { Fits self.old grip }
-        ensures whole { IfSome result IsWhole }
+        scheduler_ref: SchedulerRef<'b, 'p>,
+    ) -> Option<Completed<'p>>
+        requires { Fits self.old scheduler_ref }
+        ensures completed { IfSome result IsCompleted }
         ensures tools { self.new ≡ self.old }
     {
-        match grip {
-            Grip::Pool(place) => {
+        match scheduler_ref {
+            SchedulerRef::Pool(place) => {
                 let pool = place.hand::<R>(&mut self.rows).take_out(rt);
-                Some(Whole::Pool(pool?))
+                Some(Completed::Pool(pool?))
             }
-            Grip::Team(place) => {
+            SchedulerRef::Team(place) => {
                 let team = place.hand::<R>(&mut self.seat).take_out(rt);
-                Some(Whole::Team(team?))
+                Some(Completed::Team(team?))
             }
-            Grip::Pipe(pipe) => Some(Whole::Pipe(PipeHand::<R>::new(pipe).take_out(rt)?)),
+            SchedulerRef::Pipe(pipe) => Some(Completed::Pipe(PipeHand::<R>::new(pipe).take_out(
+                rt,
+            )?)),
             _ => None,
         }
     }
@@ -464,9 +494,9 @@ pub fn tools_of<'x>(
     requires count { vec_len claims ≡ vec_len rows }
     requires tools { AreTools words.now.table rows.items claims.items }
     ensures rows { IfOk result
-        (λ tools. map (λ t. t.rows) (reverse tools.items) ≡ map rows_kin rows.items) }
+        (λ tools. map (λ t. t.rows) (reverse tools.items) ≡ map rows_identity rows.items) }
     ensures seats { IfOk result
-        (λ tools. map (λ t. t.seat) (reverse tools.items) ≡ map seat_kin claims.items) }
+        (λ tools. map (λ t. t.seat) (reverse tools.items) ≡ map seat_identity claims.items) }
 {
     let harts = rows.len() as u8;
     let mut tools = Vec::with_capacity(alloc, rows.len())?;
@@ -485,8 +515,8 @@ pub(crate) fn offer_in<'b, 'p, R: Wait + 'b>(
     place: PoolPlace<'b, 'p>,
     rows: &mut HartRows,
 )
-    requires { PoolFits (rows_kin rows.old) place }
-    ensures { rows_kin rows.new ≡ rows_kin rows.old }
+    requires { PoolFits (rows_identity rows.old) place }
+    ensures { rows_identity rows.new ≡ rows_identity rows.old }
 {
     if place.home == rows.hart() && has_room(rows, place.level, place.pool.jobs().len()) {
         place.hand(rows).offer(rt);

@@ -1,6 +1,6 @@
 //! Sites that one hart opens and another finds.
 ghost use Rattle.std.specs.Prelude.{◌≡◌, map, vec_len};
-ghost use Rattle.claim_words.specs.Seats.{AreAll, kin};
+ghost use Rattle.claim_words.specs.Seats.{AreAll, identity};
 ghost use Rattle.hart_loop.specs.Openings.{IsOpened};
 
 use array_eval::Overlay;
@@ -8,7 +8,7 @@ use array_jobs::{Piece, piece_of};
 use array_tree::Program;
 use deque_rows::rows;
 use disjoint_check::check;
-use hart_loop::{HartSchedulers, HartSite, InDirectory, Members};
+use hart_loop::{HartSchedulers, HartSite, InDirectory, TeamMode};
 use hart_tools::{Claims, Tools, tools_of};
 use hart_work::{Schedulers, Task};
 use job_machines::JobMachines;
@@ -30,7 +30,7 @@ fn two_tools<'x>(
     claims: Vec<ClaimSeat>,
 ) -> Result<(Tools<'x>, Tools<'x>), Fail>
     requires count { vec_len claims ≡ 2 }
-    requires all { AreAll words.now.table (map kin claims.items) }
+    requires all { AreAll words.now.table (map identity claims.items) }
 {
     let mut tools = tools_of(alloc, words, rows(alloc, 2)?, claims)?;
     match (tools.pop(), tools.pop()) {
@@ -86,7 +86,7 @@ fn by_the_home<'a, 'p, R: Wait, S: InDirectory<'p>>(
     tools: Tools<'a>,
 ) -> Result<Overlay, Fail> {
     let nested = first_construct(alloc, program)?;
-    let mut home = HartSchedulers::new(lines(alloc, cells)?, tools, Members::Wait);
+    let mut home = HartSchedulers::new(lines(alloc, cells)?, tools, TeamMode::Wait);
     let mut site = Schedulers::<R, JobMachines<'p>>::open(&mut home, alloc, &nested)?;
     home.offer(rt, &site);
     let first = does_a_piece(rt, alloc, &mut home, &mut site);
@@ -197,8 +197,8 @@ fn by_two<'a, 'p, R: Wait, S: InDirectory<'p>>(
     tools: (Tools<'a>, Tools<'a>),
 ) -> Result<Overlay, Fail> {
     let (first, second) = tools;
-    let mut home = HartSchedulers::new(lines(alloc, cells)?, first, Members::Wait);
-    let mut guest = HartSchedulers::new(lines(alloc, cells)?, second, Members::Wait);
+    let mut home = HartSchedulers::new(lines(alloc, cells)?, first, TeamMode::Wait);
+    let mut guest = HartSchedulers::new(lines(alloc, cells)?, second, TeamMode::Wait);
     with_a_guest(rt, alloc, nested, &mut home, &mut guest)
 }
 
@@ -213,7 +213,7 @@ fn shares_both<R: Wait>(rt: &R, alloc: Global, program: &Program) -> Result<bool
 }
 
 #[test]
-fn a_guest_does_a_piece_and_is_told_nothing_more(rt: HostRuntime) -> Result<(), Fail> {
+fn a_guest_runs_one_piece_and_then_finds_nothing(rt: HostRuntime) -> Result<(), Fail> {
     let alloc = rt.alloc();
     let program = parsed(alloc, TWO_BRANCHES)?;
     assert!(rt; shares_both(&rt, alloc, &program)?);
@@ -227,7 +227,7 @@ fn untouched<'a, 'p, R: Wait, S: InDirectory<'p>>(
     program: &'p Program,
     cells: &'a [OnceBox<S>],
     tools: Tools<'a>,
-    members: Members,
+    members: TeamMode,
 ) -> Result<(Overlay, u8), Fail> {
     let nested = first_construct(alloc, program)?;
     let mut home = HartSchedulers::new(lines(alloc, cells)?, tools, members);
@@ -241,7 +241,7 @@ fn takes<R: Wait>(
     rt: &R,
     alloc: Global,
     program: &Program,
-    members: Members,
+    members: TeamMode,
     expected: &[(u16, i64)],
     harts: u8,
 ) -> Result<bool, Fail> {
@@ -261,7 +261,7 @@ fn a_construct_whose_pieces_are_not_there_is_computed(rt: HostRuntime) -> Result
             &rt,
             alloc,
             &program,
-            Members::Wait,
+            TeamMode::Wait,
             BOTH_BRANCHES.as_slice(),
             1
         )?
@@ -272,7 +272,7 @@ fn a_construct_whose_pieces_are_not_there_is_computed(rt: HostRuntime) -> Result
             &rt,
             alloc,
             &program,
-            Members::Wait,
+            TeamMode::Wait,
             BOTH_PHASES.as_slice(),
             2
         )?
@@ -289,7 +289,7 @@ fn a_team_whose_pieces_cross_is_computed_by_its_home(rt: HostRuntime) -> Result<
             &rt,
             alloc,
             &program,
-            Members::Overtake,
+            TeamMode::Overtake,
             BOTH_PHASES.as_slice(),
             0
         )?
@@ -298,20 +298,20 @@ fn a_team_whose_pieces_cross_is_computed_by_its_home(rt: HostRuntime) -> Result<
 }
 
 // Whether the second of two homes with the same cell requests no hart, and computes its construct.
-fn asks_for_nobody<R: Wait>(rt: &R, alloc: Global, program: &Program) -> Result<bool, Fail> {
+fn requests_no_hart<R: Wait>(rt: &R, alloc: Global, program: &Program) -> Result<bool, Fail> {
     let cells = cells::<SharedSite<'_>>(alloc, 1)?;
     let (words, claims) = Claims::new(alloc, &check(alloc, program, 2)?, 2)?;
     let (first, second) = two_tools(alloc, &words, claims)?;
     let slice = cells.as_slice();
-    let (_, one) = untouched(rt, alloc, program, slice, first, Members::Wait)?;
-    let (written, none) = untouched(rt, alloc, program, slice, second, Members::Wait)?;
+    let (_, one) = untouched(rt, alloc, program, slice, first, TeamMode::Wait)?;
+    let (written, none) = untouched(rt, alloc, program, slice, second, TeamMode::Wait)?;
     Ok(one == 1 && none == 0 && are_both(&written))
 }
 
 #[test]
-fn a_hart_whose_cell_is_taken_asks_for_nobody(rt: HostRuntime) -> Result<(), Fail> {
+fn a_hart_whose_cell_is_taken_requests_no_hart(rt: HostRuntime) -> Result<(), Fail> {
     let alloc = rt.alloc();
     let program = parsed(alloc, TWO_BRANCHES)?;
-    assert!(rt; asks_for_nobody(&rt, alloc, &program)?);
+    assert!(rt; requests_no_hart(&rt, alloc, &program)?);
     Ok(())
 }

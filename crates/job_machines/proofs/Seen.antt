@@ -35,8 +35,8 @@ accounts_of before after (step.Nest (found.Nest n)) gone = λ p around start es 
 accounts_of before after (step.Nest (found.Pass first end)) gone = λ p around start es going.
     let passed = gone.2 in
     let there = machines_run_on p around start es before passed.before passed.ran going.1 in
-    let told = machines_pass p around start es first end passed.before after there passed.told passed.moved in
-    (told.0, told.1, λ es' skipped. (going.0, told.2 es' skipped))
+    let reported = machines_pass p around start es first end passed.before after there passed.reported passed.moved in
+    (reported.0, reported.1, λ es' skipped. (going.0, reported.2 es' skipped))
 accounts_of before after step.Finished gone = λ p around start es going.
     subst (λ j. IsRunJob p start es (job_of j)) gone.0 (machines_finish p around start es after (machines_run_on p around start es before after gone.2 going.1) gone.1.rest)
 accounts_of before after step.NoMemory gone = tt

@@ -65,7 +65,7 @@ fn is_run(alloc: Global, accepted: &Accepted) -> Result<bool, Fail> {
 }
 
 #[test]
-fn a_job_is_run_by_what_is_asked_of_machines(rt: HostRuntime) -> Result<(), Fail> {
+fn a_job_is_run_by_what_machines_require(rt: HostRuntime) -> Result<(), Fail> {
     let text = b"array a[4]; a[0] = 1;
         if 0 { par { { a[3] = 1; } { } } }
         par { { a[1] = 2; } { a[2] = a[0] + 2; } }";

@@ -56,22 +56,22 @@ got xs known i place x inside is e f =
 -- ---- slots
 
 -- the jobs of a group, as models of the values in memory
-told_job : (jobs : List JobParts) (i : ℕ) (job : JobParts) → slice_get jobs i ≡ Some job → slice_get (map job_of jobs) i ≡ Some (job_of job)
-told_job jobs i job at = slice_get-map job_of jobs i ∙ ap (option_map job_of) at
+job_model : (jobs : List JobParts) (i : ℕ) (job : JobParts) → slice_get jobs i ≡ Some job → slice_get (map job_of jobs) i ≡ Some (job_of job)
+job_model jobs i job at = slice_get-map job_of jobs i ∙ ap (option_map job_of) at
 
 group_alike : (jobs : List JobParts) → IsGroup (map job_of jobs) → (i k : ℕ) (a b : JobParts) → slice_get jobs i ≡ Some a → slice_get jobs k ≡ Some b →
     AreAlike (job_of a) (job_of b)
-group_alike jobs group i k a b at there = group.alike i k (job_of a) (job_of b) (told_job jobs i a at) (told_job jobs k b there)
+group_alike jobs group i k a b at there = group.alike i k (job_of a) (job_of b) (job_model jobs i a at) (job_model jobs k b there)
 
 group_place : (jobs : List JobParts) → IsGroup (map job_of jobs) → (i : ℕ) (job : JobParts) → slice_get jobs i ≡ Some job → job.place ≡ i
-group_place jobs group i job at = group.places i (job_of job) (told_job jobs i job at)
+group_place jobs group i job at = group.places i (job_of job) (job_model jobs i job at)
 
 pub group_some : (jobs : List JobParts) → IsGroup (map job_of jobs) → 0 < length jobs
 group_some jobs group = let some_job = group.some in let same = length-map jobs job_of in omega arith
 
 -- the model of a book
-abbrev pub told_book : List JobParts → List Place → BookParts
-told_book jobs places = record { jobs = jobs; places = map mark_of places }
+abbrev pub book_model : List JobParts → List Place → BookParts
+book_model jobs places = record { jobs = jobs; places = map mark_of places }
 
 -- each job names its index
 abbrev pub NamePlaces : List JobParts → Type 0
@@ -83,7 +83,7 @@ pub own_place : (jobs : List JobParts) (places : List Mark) → IsGroup (map job
 own_place jobs places group i job is = sym (group_place jobs group i is.0 is.1) ∙ ap (λ tree. tree.place) is.2
 
 -- The same for a book that has this model.
-pub only_place : (book : BookParts) (jobs : List JobParts) (places : List Place) → told_book jobs places ≡ book → NamePlaces jobs → (job : JobParts) →
+pub only_place : (book : BookParts) (jobs : List JobParts) (places : List Place) → book_model jobs places ≡ book → NamePlaces jobs → (job : JobParts) →
     (i : ℕ) → IsPlaceOf book i job → i ≡ job.place
 only_place book jobs places e named job i is =
     sym (subst NamePlaces (ap (λ b. b.jobs) e) named i is.0 is.1) ∙ ap (λ tree. tree.place) is.2
@@ -107,8 +107,8 @@ kept_open jobs places group fit e = record {
 }
 
 -- The model of a new book.
-pub told_open : (jobs : List JobParts) (places : List Place) → places ≡ replicate (length jobs) place.Open → told_book jobs places ≡ open_book jobs
-told_open jobs places e =
+pub open_model : (jobs : List JobParts) (places : List Place) → places ≡ replicate (length jobs) place.Open → book_model jobs places ≡ open_book jobs
+open_model jobs places e =
     let f : List Mark → BookParts = λ ms. record { jobs = jobs; places = ms } in
     ap f (ap (map mark_of) e ∙ map_replicate (length jobs) place.Open)
   where
@@ -190,9 +190,9 @@ kept_put jobs places i own job written kept there at_place size is_fit right = r
     as_many k a at = set_cases (λ n j. length j.store ≡ length own.store) jobs i k job a (λ e. sym size) (λ ne was. kept.cells k i a own was there) at
 
 -- The model of the book with this piece and its job.
-pub told_put : (jobs : List JobParts) (places : List Place) (book : BookParts) (i : ℕ) (written : Laid) (piece : PieceParts) → told_book jobs places ≡ book → i ≡ piece.job.place →
-    told_book (slice_set jobs i piece.job) (slice_set places i (place.Filled written)) ≡ with_piece book piece
-told_put jobs places book i written piece e at =
+pub put_model : (jobs : List JobParts) (places : List Place) (book : BookParts) (i : ℕ) (written : Laid) (piece : PieceParts) → book_model jobs places ≡ book → i ≡ piece.job.place →
+    book_model (slice_set jobs i piece.job) (slice_set places i (place.Filled written)) ≡ with_piece book piece
+put_model jobs places book i written piece e at =
     ap (λ ms. record { jobs = slice_set jobs i piece.job; places = ms }) (map-set mark_of places i (place.Filled written))
     ∙ ap (λ n. record { jobs = slice_set jobs n piece.job; places = slice_set (map mark_of places) n Filled }) at
     ∙ ap (λ b. with_piece b piece) e
@@ -212,10 +212,10 @@ seen_mark places xs marks i p m e h is =
 
 -- A slot that is written, in the model.
 pub marked_same : (jobs : List JobParts) (places : List Place) (book : BookParts) (i k : ℕ) (p : Place) →
-    told_book jobs places ≡ book → i ≡ k → told_book jobs (slice_set places i p) ≡ marked_book book k (mark_of p)
+    book_model jobs places ≡ book → i ≡ k → book_model jobs (slice_set places i p) ≡ marked_book book k (mark_of p)
 marked_same jobs places book i k p e at =
     let f : List Mark → BookParts = λ ms. record { jobs = jobs; places = ms } in
-    ap f (map-set mark_of places i p) ∙ ap (λ n. marked_book (told_book jobs places) n (mark_of p)) at ∙ ap (λ b. marked_book b k (mark_of p)) e
+    ap f (map-set mark_of places i p) ∙ ap (λ n. marked_book (book_model jobs places) n (mark_of p)) at ∙ ap (λ b. marked_book b k (mark_of p)) e
 
 -- ---- merging
 
@@ -297,7 +297,7 @@ pub record IsMerging (book : BookParts) (places : List Place) (i : ℕ) (store f
   pub marks : length store.marks ≡ length store.cells
   pub rest : merged (pieces_from i book.jobs places) (marked store) ≡ merged (filled_pieces book.jobs book.places) (marked first)
 
-pub begins : (book : BookParts) (jobs : List JobParts) (places xs : List Place) (first : Trace) → told_book jobs places ≡ book → xs ≡ places →
+pub begins : (book : BookParts) (jobs : List JobParts) (places xs : List Place) (first : Trace) → book_model jobs places ≡ book → xs ≡ places →
     length first.marks ≡ length first.cells → IsMerging book xs 0 first first
 begins book jobs places xs first e f marks = record {
   cells = refl;
@@ -307,14 +307,14 @@ begins book jobs places xs first e f marks = record {
 
 -- A filled slot is merged.
 pub merge_filled : (jobs : List JobParts) (places : List Place) (i : ℕ) (written : Laid) (before after first : Trace) → IsKept jobs places →
-    HaveCells (told_book jobs places) (length first.cells) → i < length places → place.Filled written ≡ get_or places i (place.Filled written) →
+    HaveCells (book_model jobs places) (length first.cells) → i < length places → place.Filled written ≡ get_or places i (place.Filled written) →
     after ≡ noted_all written.pairs before →
     (All (λ w. w.0 < length before.cells) written.pairs → marked after ≡ lays written.pairs (marked before)) →
-    IsMerging (told_book jobs places) places i before first → IsMerging (told_book jobs places) places (i + 1) after first
+    IsMerging (book_model jobs places) places i before first → IsMerging (book_model jobs places) places (i + 1) after first
 merge_filled jobs places i written before after first kept have h is now laid merging = found (slice_get_cases jobs i).1
   where
     found : ((job : JobParts) × (i < length jobs) × (slice_get jobs i ≡ Some job) × (get_or jobs i job ≡ job)) ⊎ ((length jobs ≤ i) × (slice_get jobs i ≡ None)) →
-        IsMerging (told_book jobs places) places (i + 1) after first
+        IsMerging (book_model jobs places) places (i + 1) after first
     found (inr past) = let out = past.0 in let each = kept.each in absurd (omega arith)
     found (inl job) =
         let at = slice_get_read places (length places) i (place.Filled written) refl h is in
@@ -331,7 +331,7 @@ merge_filled jobs places i written before after first kept have h is now laid me
 -- A slot that isn't filled changes nothing.
 pub merge_unfilled : (jobs : List JobParts) (places : List Place) (i : ℕ) (p : Place) (before after first : Trace) → IsKept jobs places →
     i < length places → p ≡ get_or places i p → ((written : Laid) → p ≡ place.Filled written → ⊥) → after ≡ before →
-    IsMerging (told_book jobs places) places i before first → IsMerging (told_book jobs places) places (i + 1) after first
+    IsMerging (book_model jobs places) places i before first → IsMerging (book_model jobs places) places (i + 1) after first
 merge_unfilled jobs places i p before after first kept h is other now merging = rw now (record {
   cells = merging.cells;
   marks = merging.marks;
@@ -360,5 +360,5 @@ merged_from book store first none e = e ∙ ap (merged (filled_pieces book.jobs 
 
 -- A property of a book's model and slots holds for equal ones.
 pub carried : (jobs : List JobParts) (places : List Place) (book : BookParts) (xs : List Place) (P : BookParts → List Place → Type 0) →
-    told_book jobs places ≡ book → xs ≡ places → P (told_book jobs places) places → P book xs
+    book_model jobs places ≡ book → xs ≡ places → P (book_model jobs places) places → P book xs
 carried jobs places book xs P e f h = subst (λ (ps : List Place). P book ps) (sym f) (subst (λ (b : BookParts). P b places) e h)

@@ -43,7 +43,7 @@ fn fault_of(alloc: Global, text: &[u8]) -> Result<Option<TextFault>, Fail>
 }
 
 #[test]
-fn lines_without_their_form_are_told(rt: HostRuntime) -> Result<(), Fail> {
+fn lines_without_their_form_are_reported(rt: HostRuntime) -> Result<(), Fail> {
     let alloc = rt.alloc();
     let first = Some(TextFault::BadLine { line: 1 });
     let second = Some(TextFault::BadLine { line: 2 });
@@ -60,7 +60,7 @@ fn lines_without_their_form_are_told(rt: HostRuntime) -> Result<(), Fail> {
 }
 
 #[test]
-fn bad_numbers_are_told(rt: HostRuntime) -> Result<(), Fail> {
+fn bad_numbers_are_reported(rt: HostRuntime) -> Result<(), Fail> {
     let alloc = rt.alloc();
     let second = Some(TextFault::BadNumber { line: 2 });
     assert_eq!(rt;
@@ -88,7 +88,7 @@ fn bad_numbers_are_told(rt: HostRuntime) -> Result<(), Fail> {
 }
 
 #[test]
-fn broken_lines_of_a_skip_are_told(rt: HostRuntime) -> Result<(), Fail> {
+fn broken_lines_of_a_skip_are_reported(rt: HostRuntime) -> Result<(), Fail> {
     let alloc = rt.alloc();
     let line = Some(TextFault::BadLine { line: 2 });
     let number = Some(TextFault::BadNumber { line: 2 });
@@ -108,7 +108,7 @@ fn broken_lines_of_a_skip_are_told(rt: HostRuntime) -> Result<(), Fail> {
 }
 
 #[test]
-fn a_wrong_count_is_told(rt: HostRuntime) -> Result<(), Fail> {
+fn a_wrong_count_is_reported(rt: HostRuntime) -> Result<(), Fail> {
     let fault = fault_of(rt.alloc(), b"transfers 2\n0 h0 enter s1\n")?;
     assert_eq!(rt; fault, Some(TextFault::WrongCount { said: 2, found: 1 }));
     assert_eq!(rt; fault_of(rt.alloc(), b"transfers 0\n")?, None);

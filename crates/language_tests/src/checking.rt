@@ -16,7 +16,7 @@ fn refusal(alloc: Global, text: &str) -> Result<Option<CheckFault>, Fail> {
 }
 
 #[test]
-fn names_are_told_by_their_lines(rt: HostRuntime) -> Result<(), Fail> {
+fn names_are_reported_by_their_lines(rt: HostRuntime) -> Result<(), Fail> {
     let alloc = rt.alloc();
     let unknown = Some(CheckFault::UnknownName { line: 1 });
     assert!(rt; refusal(alloc, "a[0] = 1;")? == unknown);
@@ -39,7 +39,7 @@ fn constructs_stand_under_ifs_and_three_deep(rt: HostRuntime) -> Result<(), Fail
 }
 
 #[test]
-fn size_is_told(rt: HostRuntime) -> Result<(), Fail> {
+fn size_is_reported(rt: HostRuntime) -> Result<(), Fail> {
     let alloc = rt.alloc();
     let sites = Some(CheckFault::TooManySites { sites: 4096 });
     assert!(rt; refusal(alloc, "for k in 0..4095 { par { { } } }")? == None);
@@ -53,7 +53,7 @@ fn size_is_told(rt: HostRuntime) -> Result<(), Fail> {
 }
 
 #[test]
-fn limits_are_told_in_their_order(rt: HostRuntime) -> Result<(), Fail> {
+fn limits_are_reported_in_their_order(rt: HostRuntime) -> Result<(), Fail> {
     let alloc = rt.alloc();
     let length = Some(bad(2, Limit::Length, 4097));
     assert!(rt; refusal(alloc, "array a[4000];\narray b[4097];")? == length);

@@ -27,7 +27,7 @@ fn are_the_longest(found: &[Token<'_>]) -> bool {
 }
 
 #[test]
-fn tells_the_first_fault(rt: HostRuntime) -> Result<(), Fail> {
+fn reports_the_first_fault(rt: HostRuntime) -> Result<(), Fail> {
     let alloc = rt.alloc();
     assert!(rt; is_largest(&tokens(alloc, b"9223372036854775807")?));
     assert!(rt;

@@ -57,7 +57,7 @@ fn numbers_wrap_and_divide_by_zero(rt: HostRuntime) -> Result<(), Fail> {
 
 // The names of two arrays have the same digest.
 #[test]
-fn arrays_of_one_digest_are_told_apart(rt: HostRuntime) -> Result<(), Fail> {
+fn arrays_of_one_digest_are_distinguished(rt: HostRuntime) -> Result<(), Fail> {
     let text = "array eO0J8aA2qbhs[2]; array d92BRY10am9L[3];
         d92BRY10am9L[2] = 7; eO0J8aA2qbhs[1] = d92BRY10am9L[2] + 1;";
     let expected = b"eO0J8aA2qbhs = 0 8\nd92BRY10am9L = 0 0 7\n".as_slice();
@@ -67,7 +67,7 @@ fn arrays_of_one_digest_are_told_apart(rt: HostRuntime) -> Result<(), Fail> {
 
 // The digests of `a`, `gb` and `jy` are equal modulo 256.
 #[test]
-fn arrays_of_one_slot_are_told_apart(rt: HostRuntime) -> Result<(), Fail> {
+fn arrays_of_one_slot_are_distinguished(rt: HostRuntime) -> Result<(), Fail> {
     let text = "array b[1]; array a[2]; array gb[2]; array c[1]; array jy[2];
         a[1] = 1; gb[0] = 2; jy[1] = a[1] + gb[0]; b[0] = jy[1]; c[0] = gb[0];";
     let expected = b"b = 3\na = 0 1\ngb = 2 0\nc = 2\njy = 0 3\n".as_slice();

@@ -47,7 +47,7 @@ fn loops_from_minus_nine(program: &Program) -> bool {
 }
 
 #[test]
-fn first_faults_are_told(rt: HostRuntime) {
+fn first_faults_are_reported(rt: HostRuntime) {
     let faults = [
         (b"array a[4".as_slice(), SyntaxFault::Unexpected { at: 9 }),
         (

@@ -8,15 +8,15 @@ use std::alloc::Global;
 use std::test::Fail;
 
 #[test]
-fn tells_programs_apart(rt: HostRuntime) -> Result<(), Fail> {
+fn distinguishes_programs(rt: HostRuntime) -> Result<(), Fail> {
     let alloc = rt.alloc();
     let program = par(alloc, 1, 3, 2)?;
-    assert!(rt; is_told_apart(alloc, &program)?);
+    assert!(rt; is_distinguished(alloc, &program)?);
     Ok(())
 }
 
 // Whether a `par` equals its like, and none with another line, another value or a branch less.
-fn is_told_apart(alloc: Global, program: &Program) -> Result<bool, Fail> {
+fn is_distinguished(alloc: Global, program: &Program) -> Result<bool, Fail> {
     let is_like = is_par(alloc, program, 1, 3, 2)?;
     let has_other_line = is_par(alloc, program, 2, 3, 2)?;
     let has_other_value = is_par(alloc, program, 1, 4, 2)?;
@@ -44,15 +44,15 @@ fn has_the_arrays(alloc: Global, program: &Program) -> Result<bool, Fail> {
 }
 
 #[test]
-fn tells_expressions_apart(rt: HostRuntime) -> Result<(), Fail> {
+fn distinguishes_expressions(rt: HostRuntime) -> Result<(), Fail> {
     let alloc = rt.alloc();
-    assert!(rt; tells_sums_apart(alloc, &binary(alloc, Op::Add, 1, 2)?)?);
-    assert!(rt; tells_cells_apart(alloc, &read(alloc, b"a", 1)?)?);
+    assert!(rt; distinguishes_sums(alloc, &binary(alloc, Op::Add, 1, 2)?)?);
+    assert!(rt; distinguishes_cells(alloc, &read(alloc, b"a", 1)?)?);
     Ok(())
 }
 
 // Whether the sum of 1 and 2 equals itself, but no difference and not the sum of 2 and 1.
-fn tells_sums_apart(alloc: Global, sum: &Expr) -> Result<bool, Fail> {
+fn distinguishes_sums(alloc: Global, sum: &Expr) -> Result<bool, Fail> {
     let is_sum = is_binary(alloc, sum, Op::Add, 1, 2)?;
     let is_difference = is_binary(alloc, sum, Op::Sub, 1, 2)?;
     let is_turned = is_binary(alloc, sum, Op::Add, 2, 1)?;
@@ -60,7 +60,7 @@ fn tells_sums_apart(alloc: Global, sum: &Expr) -> Result<bool, Fail> {
 }
 
 // Whether cell 1 of `a` equals itself, but no cell of another array, no other cell, and no variable.
-fn tells_cells_apart(alloc: Global, cell: &Expr) -> Result<bool, Fail> {
+fn distinguishes_cells(alloc: Global, cell: &Expr) -> Result<bool, Fail> {
     let is_cell = is_read(alloc, cell, b"a", 1)?;
     let is_other_array = is_read(alloc, cell, b"ab", 1)?;
     let is_other_cell = is_read(alloc, cell, b"a", -1)?;

@@ -22,36 +22,36 @@ abbrev pub view_of : Lent → View
 view_of l = l.seat.seat.me.0
 
 -- A register, with the value at the site's number before and after.
-abbrev pub AnswersRegister : Lent → ℕ → ℕ → ℕ → Lent → Type 0
-AnswersRegister l before status after m = (board_of m ≡ board_of l)
+abbrev pub ReturnsRegister : Lent → ℕ → ℕ → ℕ → Lent → Type 0
+ReturnsRegister l before status after m = (board_of m ≡ board_of l)
     × ((r : Result ℕ TooDeep) × Registers (view_of l) r (view_of m) × (status ≡ register_status r) × (after ≡ site_after before r))
 
 -- A request.
-abbrev pub AnswersRequest : Lent → ℕ → ℕ → Lent → Type 0
-AnswersRequest l count status m = (board_of m ≡ board_of l)
+abbrev pub ReturnsRequest : Lent → ℕ → ℕ → Lent → Type 0
+ReturnsRequest l count status m = (board_of m ≡ board_of l)
     × ((r : Result (Unit {0}) Refused) × ChecksRequest (board_of l).size (view_of l) count r (view_of m) × (status ≡ plain_status r))
 
 -- A try to enter.
-abbrev pub AnswersEnter : Lent → ℕ → ℕ → Lent → Type 0
-AnswersEnter l site status m = (board_of m ≡ board_of l)
+abbrev pub ReturnsEnter : Lent → ℕ → ℕ → Lent → Type 0
+ReturnsEnter l site status m = (board_of m ≡ board_of l)
     × ((r : Result Entered Refused) × ChecksEnter (board_of l).size (view_of l) site r (view_of m) × (status ≡ enter_status r))
 
 -- A yield.
-abbrev pub AnswersYield : Lent → ℕ → Lent → Type 0
-AnswersYield l status m = (board_of m ≡ board_of l)
+abbrev pub ReturnsYield : Lent → ℕ → Lent → Type 0
+ReturnsYield l status m = (board_of m ≡ board_of l)
     × ((r : Result (Unit {0}) Refused) × ChecksYield (view_of l) r (view_of m) × (status ≡ plain_status r))
 
 -- A close.
-abbrev pub AnswersClose : Lent → ℕ → Lent → Type 0
-AnswersClose l status m = (board_of m ≡ board_of l)
+abbrev pub ReturnsClose : Lent → ℕ → Lent → Type 0
+ReturnsClose l status m = (board_of m ≡ board_of l)
     × ((r : Result (Unit {0}) Refused) × ChecksClose (view_of l) r (view_of m) × (status ≡ plain_status r))
 
 -- A check whether the owner is empty.
-abbrev pub AnswersLook : Lent → ℕ → Lent → Type 0
-AnswersLook l status m = (board_of m ≡ board_of l)
+abbrev pub ReturnsLook : Lent → ℕ → Lent → Type 0
+ReturnsLook l status m = (board_of m ≡ board_of l)
     × ((r : Result Seen Refused) × ChecksLook (view_of l) r (view_of m) × (status ≡ look_status r))
 
 -- An unregister.
-abbrev pub AnswersUnregister : Lent → ℕ → Lent → Type 0
-AnswersUnregister l status m = (board_of m ≡ board_of l)
+abbrev pub ReturnsUnregister : Lent → ℕ → Lent → Type 0
+ReturnsUnregister l status m = (board_of m ≡ board_of l)
     × ((r : Result (Unit {0}) Refused) × ChecksUnregister (view_of l) r (view_of m) × (status ≡ plain_status r))

@@ -11,7 +11,7 @@
 
 ghost use Rattle.std.specs.Prelude.{◌≡◌, ◌⊎◌, ◌<◌, ◌≢◌, length};
 ghost use Rattle.open_board.specs.Views.{owner_of};
-ghost use Rattle.lithe_c.specs.Answers.{view_of, AnswersRegister, AnswersRequest, AnswersEnter, AnswersYield, AnswersClose, AnswersLook, AnswersUnregister};
+ghost use Rattle.lithe_c.specs.Answers.{view_of, ReturnsRegister, ReturnsRequest, ReturnsEnter, ReturnsYield, ReturnsClose, ReturnsLook, ReturnsUnregister};
 ghost use Rattle.lithe_c.specs.Making.{MakesOrKeeps};
 ghost use Rattle.lithe_c.specs.Status.{EndsText};
 
@@ -70,7 +70,7 @@ pub extern "C" fn lithe_hart_make(alloc: Global, levels: u8, harts: &mut [*mut u
 /// Returns 8 (too deep) exactly if the hart is the home of as many sites as the board has levels. Nothing changes then.
 #[unsafe(no_mangle)]
 pub extern "C" fn lithe_hart_register(hart: &mut LitheHart, site: &mut u16) -> u32
-    ensures { AnswersRegister hart.old.lent site.old result site.new hart.new.lent }
+    ensures { ReturnsRegister hart.old.lent site.old result site.new hart.new.lent }
 {
     let made = replace_with(hart, (), calls::registered);
     if let Ok(number) = made {
@@ -90,7 +90,7 @@ pub extern "C" fn lithe_hart_register(hart: &mut LitheHart, site: &mut u16) -> u
 /// The call requests no hart then.
 #[unsafe(no_mangle)]
 pub extern "C" fn lithe_hart_request(hart: &mut LitheHart, count: u8) -> u32
-    ensures { AnswersRequest hart.old.lent count result hart.new.lent }
+    ensures { ReturnsRequest hart.old.lent count result hart.new.lent }
 {
     status::of_call(replace_with(hart, count, calls::requested))
 }
@@ -107,7 +107,7 @@ pub extern "C" fn lithe_hart_request(hart: &mut LitheHart, count: u8) -> u32
 /// The hart stays in its owner then.
 #[unsafe(no_mangle)]
 pub extern "C" fn lithe_hart_enter(hart: &mut LitheHart, site: u16) -> u32
-    ensures { AnswersEnter hart.old.lent site result hart.new.lent }
+    ensures { ReturnsEnter hart.old.lent site result hart.new.lent }
 {
     status::of_enter(replace_with(hart, site, calls::entered))
 }
@@ -117,7 +117,7 @@ pub extern "C" fn lithe_hart_enter(hart: &mut LitheHart, site: u16) -> u32
 /// Returns 2 (not guest) if the hart isn't a guest of its owner. Nothing changes then.
 #[unsafe(no_mangle)]
 pub extern "C" fn lithe_hart_yield(hart: &mut LitheHart) -> u32
-    ensures { AnswersYield hart.old.lent result hart.new.lent }
+    ensures { ReturnsYield hart.old.lent result hart.new.lent }
 {
     status::of_call(replace_with(hart, (), calls::yielded))
 }
@@ -127,7 +127,7 @@ pub extern "C" fn lithe_hart_yield(hart: &mut LitheHart) -> u32
 /// Returns 1 (not home) if the hart isn't the home of its owner, else 4 (is closed) if it closed it already.
 #[unsafe(no_mangle)]
 pub extern "C" fn lithe_hart_close(hart: &mut LitheHart) -> u32
-    ensures { AnswersClose hart.old.lent result hart.new.lent }
+    ensures { ReturnsClose hart.old.lent result hart.new.lent }
 {
     status::of_call(replace_with(hart, (), calls::closed))
 }
@@ -138,7 +138,7 @@ pub extern "C" fn lithe_hart_close(hart: &mut LitheHart) -> u32
 /// Returns 1 (not home) if the hart isn't the home of its owner, else 5 (not closed) if it hasn't closed it.
 #[unsafe(no_mangle)]
 pub extern "C" fn lithe_hart_see_empty(hart: &mut LitheHart) -> u32
-    ensures { AnswersLook hart.old.lent result hart.new.lent }
+    ensures { ReturnsLook hart.old.lent result hart.new.lent }
 {
     status::of_look(replace_with(hart, (), calls::looked))
 }
@@ -154,7 +154,7 @@ pub extern "C" fn lithe_hart_see_empty(hart: &mut LitheHart) -> u32
 /// The site stays live then.
 #[unsafe(no_mangle)]
 pub extern "C" fn lithe_hart_unregister(hart: &mut LitheHart) -> u32
-    ensures { AnswersUnregister hart.old.lent result hart.new.lent }
+    ensures { ReturnsUnregister hart.old.lent result hart.new.lent }
 {
     status::of_call(replace_with(hart, (), calls::unregistered))
 }

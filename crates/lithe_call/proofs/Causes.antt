@@ -8,14 +8,14 @@ use Rattle.disjoint_check.specs.FaultOf.{check_fault_of}
 use Rattle.disjoint_check.proofs.Accepting.{none_of_accepted}
 use Rattle.disjoint_check.specs.declared.fault.CheckFault.{CheckFault}
 use Rattle.disjoint_check.specs.declared.fault.CheckFault.TheVariants as check
-use Rattle.lithe_call.specs.Lines.{TellsSyntax, TellsRefusal}
-use Rattle.lithe_call.specs.Telling.{GivesAll, GivesMore, Tells}
+use Rattle.lithe_call.specs.Lines.{PrintsSyntax, PrintsRefusal}
+use Rattle.lithe_call.specs.Printing.{GivesAll, GivesMore, Prints}
 use Rattle.lithe_call.specs.Inputs.{ReadsAll}
 use Rattle.command_words.specs.Form.{form_of}
 use Rattle.lithe_call.specs.Faults.{SpellRefused, IsFault, IsNoRun, IsNoOutput}
 use Rattle.lithe_call.specs.Output.{IsOutputOf}
 use Rattle.lithe_call.specs.FaultOf.{status_of, line_of}
-use Rattle.lithe_call.specs.Served.{IsOutputFor, TellsStatus}
+use Rattle.lithe_call.specs.Served.{IsOutputFor, PrintsStatus}
 use Rattle.command_words.specs.declared.command.Command.{Command}
 use Rattle.lithe_call.specs.declared.fault.Fault.{Fault}
 use Rattle.lithe_call.specs.declared.fault.Fault.TheVariants as fault
@@ -52,16 +52,16 @@ output_of_given status text command words (Ok x) read left left' form all h =
 output_of_given status text command words (Err why) read left left' form all h = tt
 
 -- The line of a fault is the text of its status.
-pub fault_told : (words : List (List ℕ)) (why : Fault) (left left' taken : Option (List ℕ)) (faults faults' told : ℕ) (taken' : Option (List ℕ)) (told' : ℕ) →
-    IsFault words why left left' faults faults' → Tells taken told (line_of why) taken' told' → TellsStatus words (status_of why) left left' taken told taken' told'
-fault_told words fault.Usage left left' taken faults faults' told taken' told' h tells = record { text = line_of fault.Usage; right = refl; tells = tells }
-fault_told words fault.TooLong left left' taken faults faults' told taken' told' h tells = record { text = line_of fault.TooLong; right = refl; tells = tells }
-fault_told words fault.ReadFault left left' taken faults faults' told taken' told' h tells = record { text = line_of fault.ReadFault; right = refl; tells = tells }
-fault_told words (fault.Syntax line) left left' taken faults faults' told taken' told' h tells =
-    record { text = line.items; right = record { command = h.0; form = h.1; bytes = h.2.0; given = h.2.1; is = h.2.2 }; tells = tells }
-fault_told words (fault.Refused line) left left' taken faults faults' told taken' told' h tells =
-    record { text = line.items; right = record { command = h.0; form = h.1; bytes = h.2.0; given = h.2.1; is = h.2.2 }; tells = tells }
-fault_told words fault.Memory left left' taken faults faults' told taken' told' h tells = record { text = line_of fault.Memory; right = refl; tells = tells }
+pub fault_printed : (words : List (List ℕ)) (why : Fault) (left left' taken : Option (List ℕ)) (faults faults' printed : ℕ) (taken' : Option (List ℕ)) (printed' : ℕ) →
+    IsFault words why left left' faults faults' → Prints taken printed (line_of why) taken' printed' → PrintsStatus words (status_of why) left left' taken printed taken' printed'
+fault_printed words fault.Usage left left' taken faults faults' printed taken' printed' h prints = record { text = line_of fault.Usage; right = refl; prints = prints }
+fault_printed words fault.TooLong left left' taken faults faults' printed taken' printed' h prints = record { text = line_of fault.TooLong; right = refl; prints = prints }
+fault_printed words fault.ReadFault left left' taken faults faults' printed taken' printed' h prints = record { text = line_of fault.ReadFault; right = refl; prints = prints }
+fault_printed words (fault.Syntax line) left left' taken faults faults' printed taken' printed' h prints =
+    record { text = line.items; right = record { command = h.0; form = h.1; bytes = h.2.0; given = h.2.1; is = h.2.2 }; prints = prints }
+fault_printed words (fault.Refused line) left left' taken faults faults' printed taken' printed' h prints =
+    record { text = line.items; right = record { command = h.0; form = h.1; bytes = h.2.0; given = h.2.1; is = h.2.2 }; prints = prints }
+fault_printed words fault.Memory left left' taken faults faults' printed taken' printed' h prints = record { text = line_of fault.Memory; right = refl; prints = prints }
 
 -- If more bytes than a limit were given, the source had more than the limit.
 pub more_of_left : (left left' : Option (List ℕ)) (limit : ℕ) → GivesMore left limit left' → (bytes : List ℕ) → left ≡ Some bytes → limit < length bytes
@@ -73,31 +73,31 @@ more_of_left (Some b) (Some rest) limit more bytes e =
     subst (λ (l : List ℕ). limit < length l) same (omega (arith, whole, more.longer))
 
 -- A program that isn't accepted has no output.
-pub refused_line : (harts : ℕ) (bytes : List ℕ) (program : ProgramTree) (cause : CheckFault) (why : Fault) → length bytes ≤ 65536 → Spells bytes program → TellsRefusal program cause why →
+pub refused_line : (harts : ℕ) (bytes : List ℕ) (program : ProgramTree) (cause : CheckFault) (why : Fault) → length bytes ≤ 65536 → Spells bytes program → PrintsRefusal program cause why →
     (cause ≡ check.Memory) ⊎ (check_fault_of program harts ≡ Some cause) → IsNoRun (SpellRefused harts) bytes why
-refused_line harts bytes program cause fault.Usage short spelled tells first = absurd tells
-refused_line harts bytes program cause fault.TooLong short spelled tells first = absurd tells
-refused_line harts bytes program cause fault.ReadFault short spelled tells first = absurd tells
-refused_line harts bytes program cause (fault.Syntax line) short spelled tells first = absurd tells
-refused_line harts bytes program cause (fault.Refused line) short spelled tells first = elim first [
-  | inl memory ↦ absurd (tells.0 memory)
+refused_line harts bytes program cause fault.Usage short spelled prints first = absurd prints
+refused_line harts bytes program cause fault.TooLong short spelled prints first = absurd prints
+refused_line harts bytes program cause fault.ReadFault short spelled prints first = absurd prints
+refused_line harts bytes program cause (fault.Syntax line) short spelled prints first = absurd prints
+refused_line harts bytes program cause (fault.Refused line) short spelled prints first = elim first [
+  | inl memory ↦ absurd (prints.0 memory)
   | inr is ↦ record {
     short = short;
     program = program;
     spelled = spelled;
     refused = λ accepted. let none = none_of_accepted program harts accepted in cc;
-    first = record { fault = cause; is = is; real = tells.0; told = tells.1 };
+    first = record { fault = cause; is = is; real = prints.0; printed = prints.1 };
   }
 ]
-refused_line harts bytes program cause fault.Memory short spelled tells first = tt
+refused_line harts bytes program cause fault.Memory short spelled prints first = tt
 
 -- A text that spells no program has no output.
-pub syntax_line_told : (AreRefused : List ℕ → List ℕ → Type 0) (bytes : List ℕ) (cause : SyntaxFault) (why : Fault) → length bytes ≤ 65536 → TellsSyntax cause why →
+pub syntax_line_printed : (AreRefused : List ℕ → List ℕ → Type 0) (bytes : List ℕ) (cause : SyntaxFault) (why : Fault) → length bytes ≤ 65536 → PrintsSyntax cause why →
     ((program : ProgramTree) → Spells bytes program → cause ≡ syntax.Memory) → HasFault bytes cause → IsNoRun AreRefused bytes why
-syntax_line_told AreRefused bytes cause fault.Usage short tells only first = absurd tells
-syntax_line_told AreRefused bytes cause fault.TooLong short tells only first = absurd tells
-syntax_line_told AreRefused bytes cause fault.ReadFault short tells only first = absurd tells
-syntax_line_told AreRefused bytes cause (fault.Syntax line) short tells only first =
-    record { short = short; nothing = λ program spelled. tells.0 (only program spelled); fault = cause; first = first; real = tells.0; told = tells.1 }
-syntax_line_told AreRefused bytes cause (fault.Refused line) short tells only first = absurd tells
-syntax_line_told AreRefused bytes cause fault.Memory short tells only first = tt
+syntax_line_printed AreRefused bytes cause fault.Usage short prints only first = absurd prints
+syntax_line_printed AreRefused bytes cause fault.TooLong short prints only first = absurd prints
+syntax_line_printed AreRefused bytes cause fault.ReadFault short prints only first = absurd prints
+syntax_line_printed AreRefused bytes cause (fault.Syntax line) short prints only first =
+    record { short = short; nothing = λ program spelled. prints.0 (only program spelled); fault = cause; first = first; real = prints.0; printed = prints.1 }
+syntax_line_printed AreRefused bytes cause (fault.Refused line) short prints only first = absurd prints
+syntax_line_printed AreRefused bytes cause fault.Memory short prints only first = tt

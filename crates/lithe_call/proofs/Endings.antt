@@ -23,8 +23,8 @@ use Rattle.lithe_call.specs.Auditing.{HasParts, AreFound, found_in, status_by}
 use Rattle.lithe_call.specs.Output.{IsOutputOf, EndsMade, EndsWith}
 use Rattle.lithe_call.specs.Faults.{SpellNothing, SpellRefused, SpellUntallied, SpellUnpiped, AreNoOutput, IsNoText, IsRefused, IsLong, IsFault, IsNoRun, IsNoOutput, HaveNoVerdict}
 use Rattle.lithe_call.specs.FaultOf.{status_of}
-use Rattle.lithe_call.specs.Served.{IsOutputFor, IsTooLong, IsToldOf, IsTextOf}
-use Rattle.lithe_call.specs.Told.{IsLineOf}
+use Rattle.lithe_call.specs.Served.{IsOutputFor, IsTooLong, IsPrintedOf, IsTextOf}
+use Rattle.lithe_call.specs.Printed.{IsLineOf}
 use Rattle.lithe_call.specs.declared.fault.Fault.{Fault}
 use Rattle.lithe_call.specs.declared.fault.Fault.TheVariants as fault
 use Rattle.lithe_call.specs.declared.status.Status.{Status}
@@ -206,24 +206,24 @@ ends_one (Audit harts) bytes status ending text out ends = out.same ∙ ap statu
 ends_one (Make seed size harts) bytes status ending text out ends = out.0 ∙ sym (made_done harts (made_text seed size) status out.1.program out.1.input ends)
 
 -- The written text is the output for the input.
-pub output_told : (words : List (List ℕ)) (left left' : Option (List ℕ)) (ending : Status) (text : List ℕ) → IsOutputFor words left left' ending text
+pub output_printed : (words : List (List ℕ)) (left left' : Option (List ℕ)) (ending : Status) (text : List ℕ) → IsOutputFor words left left' ending text
     → (command : Command) → form_of words ≡ Some command → (bytes : List ℕ) → AreInput command left bytes → IsOutputOf command bytes ending text
-output_told words left left' ending text out command form bytes e =
+output_printed words left left' ending text out command form bytes e =
     of_words (λ c b. IsOutputOf c b ending text) (λ seed size harts a b is. is) words out.command command bytes out.bytes left left' out.form form e out.given out.output
 
 pub one_ending : (words : List (List ℕ)) (left left' : Option (List ℕ)) (ending : Status) (text : List ℕ) → IsOutputFor words left left' ending text
     → (command : Command) → form_of words ≡ Some command → (bytes : List ℕ) → AreInput command left bytes → (status : Status) → EndsWith command bytes status → ending ≡ status
 one_ending words left left' ending text out command form bytes e status ends =
-    ends_one command bytes status ending text (output_told words left left' ending text out command form bytes e) ends
+    ends_one command bytes status ending text (output_printed words left left' ending text out command form bytes e) ends
 
 -- ---- each fault in terms of the words
-pub too_long_told : (words : List (List ℕ)) (why : Fault) (left left' : Option (List ℕ)) (faults faults' : ℕ) → IsFault words why left left' faults faults' → status_of why ≡ status.TooLong → IsTooLong words left left'
-too_long_told words fault.Usage left left' faults faults' h e = cc e
-too_long_told words fault.TooLong left left' faults faults' h e = record { command = h.0; form = h.1; longer = h.2 }
-too_long_told words fault.ReadFault left left' faults faults' h e = cc e
-too_long_told words (fault.Syntax line) left left' faults faults' h e = cc e
-too_long_told words (fault.Refused line) left left' faults faults' h e = cc e
-too_long_told words fault.Memory left left' faults faults' h e = cc e
+pub too_long_printed : (words : List (List ℕ)) (why : Fault) (left left' : Option (List ℕ)) (faults faults' : ℕ) → IsFault words why left left' faults faults' → status_of why ≡ status.TooLong → IsTooLong words left left'
+too_long_printed words fault.Usage left left' faults faults' h e = cc e
+too_long_printed words fault.TooLong left left' faults faults' h e = record { command = h.0; form = h.1; longer = h.2 }
+too_long_printed words fault.ReadFault left left' faults faults' h e = cc e
+too_long_printed words (fault.Syntax line) left left' faults faults' h e = cc e
+too_long_printed words (fault.Refused line) left left' faults faults' h e = cc e
+too_long_printed words fault.Memory left left' faults faults' h e = cc e
 
 failed_rose : (command : Command) (faults faults' : ℕ) → FailsToRead command faults faults' → Rose faults faults'
 failed_rose (Run harts) faults faults' h = h
@@ -233,13 +233,13 @@ failed_rose Solo faults faults' h = h
 failed_rose (Audit harts) faults faults' h = h
 failed_rose (Make seed size harts) faults faults' h = absurd h
 
-pub read_fault_told : (words : List (List ℕ)) (why : Fault) (left left' : Option (List ℕ)) (faults faults' : ℕ) → IsFault words why left left' faults faults' → status_of why ≡ status.ReadFault → Rose faults faults'
-read_fault_told words fault.Usage left left' faults faults' h e = cc e
-read_fault_told words fault.TooLong left left' faults faults' h e = cc e
-read_fault_told words fault.ReadFault left left' faults faults' h e = failed_rose h.0 faults faults' h.2
-read_fault_told words (fault.Syntax line) left left' faults faults' h e = cc e
-read_fault_told words (fault.Refused line) left left' faults faults' h e = cc e
-read_fault_told words fault.Memory left left' faults faults' h e = cc e
+pub read_fault_printed : (words : List (List ℕ)) (why : Fault) (left left' : Option (List ℕ)) (faults faults' : ℕ) → IsFault words why left left' faults faults' → status_of why ≡ status.ReadFault → Rose faults faults'
+read_fault_printed words fault.Usage left left' faults faults' h e = cc e
+read_fault_printed words fault.TooLong left left' faults faults' h e = cc e
+read_fault_printed words fault.ReadFault left left' faults faults' h e = failed_rose h.0 faults faults' h.2
+read_fault_printed words (fault.Syntax line) left left' faults faults' h e = cc e
+read_fault_printed words (fault.Refused line) left left' faults faults' h e = cc e
+read_fault_printed words fault.Memory left left' faults faults' h e = cc e
 
 pub no_verdict_of_no_run : (harts : ℕ) (first second : List ℕ) (why : Fault) → IsNoRun (SpellRefused harts) first why → HaveNoVerdict harts first second why
 no_verdict_of_no_run harts first second fault.Usage h = h
@@ -250,10 +250,10 @@ no_verdict_of_no_run harts first second (fault.Refused line) h = h
 no_verdict_of_no_run harts first second fault.Memory h = tt
 
 -- ---- the line of a status, if the source's bytes are known
-told_of : (IsSo : Command → List ℕ → List ℕ → Type 0) → ((seed size harts : ℕ) (a b line : List ℕ) → IsSo (Make seed size harts) a line → IsSo (Make seed size harts) b line)
-    → (words : List (List ℕ)) (left left' : Option (List ℕ)) (line : List ℕ) → IsToldOf IsSo words left left' line
+printed_of : (IsSo : Command → List ℕ → List ℕ → Type 0) → ((seed size harts : ℕ) (a b line : List ℕ) → IsSo (Make seed size harts) a line → IsSo (Make seed size harts) b line)
+    → (words : List (List ℕ)) (left left' : Option (List ℕ)) (line : List ℕ) → IsPrintedOf IsSo words left left' line
     → (command : Command) → form_of words ≡ Some command → (bytes : List ℕ) → AreInput command left bytes → IsSo command bytes line
-told_of IsSo any words left left' line is command form bytes e =
+printed_of IsSo any words left left' line is command form bytes e =
     of_words (λ c b. IsSo c b line) (λ seed size harts a b own. any seed size harts a b line own) words is.command command bytes is.bytes left left' is.form form e is.given is.is
 
 pub too_long_input : (words : List (List ℕ)) (left left' : Option (List ℕ)) → IsTooLong words left left' → (command : Command) → form_of words ≡ Some command
@@ -265,17 +265,17 @@ too_long_input words left left' long command form bytes e =
       | inr part ↦ inr (of_words IsLong (λ seed size harts a b is. is) words long.command command bytes part.0 left left' long.form form e part.1 part.2)
     ]
 
-pub line_told : (words : List (List ℕ)) (ended : Status) (left left' : Option (List ℕ)) (line : List ℕ) → IsTextOf words ended left left' line
+pub line_printed : (words : List (List ℕ)) (ended : Status) (left left' : Option (List ℕ)) (line : List ℕ) → IsTextOf words ended left left' line
     → (command : Command) → form_of words ≡ Some command → (bytes : List ℕ) → AreInput command left bytes → IsLineOf command ended bytes line
-line_told words status.Syntax left left' line is command form bytes e = told_of IsNoText (λ seed size harts a b l own. own) words left left' line is command form bytes e
-line_told words status.Refused left left' line is command form bytes e = told_of IsRefused (λ seed size harts a b l own. own) words left left' line is command form bytes e
-line_told words status.Done left left' line is command form bytes e = is
-line_told words status.Illegal left left' line is command form bytes e = is
-line_told words status.Usage left left' line is command form bytes e = is
-line_told words status.TooLong left left' line is command form bytes e = is
-line_told words status.ReadFault left left' line is command form bytes e = is
-line_told words status.WriteFault left left' line is command form bytes e = is
-line_told words status.NoMemory left left' line is command form bytes e = is
+line_printed words status.Syntax left left' line is command form bytes e = printed_of IsNoText (λ seed size harts a b l own. own) words left left' line is command form bytes e
+line_printed words status.Refused left left' line is command form bytes e = printed_of IsRefused (λ seed size harts a b l own. own) words left left' line is command form bytes e
+line_printed words status.Done left left' line is command form bytes e = is
+line_printed words status.Illegal left left' line is command form bytes e = is
+line_printed words status.Usage left left' line is command form bytes e = is
+line_printed words status.TooLong left left' line is command form bytes e = is
+line_printed words status.ReadFault left left' line is command form bytes e = is
+line_printed words status.WriteFault left left' line is command form bytes e = is
+line_printed words status.NoMemory left left' line is command form bytes e = is
 
 -- ---- the text of a made program spells it
 pub no_output_of_made : (seed size harts : ℕ) (bytes : List ℕ) (why : Fault) → size ≤ 40 → IsNoRun (SpellRefused harts) (made_text seed size) why → IsNoOutput (Make seed size harts) bytes why

@@ -11,8 +11,8 @@ use Rattle.phase_order.specs.Crossings.{HasNoCrossings}
 use Rattle.pipe_walk.specs.FirstCrossing.{IsFaultOf}
 use Rattle.pipe_walk.specs.declared.fault.PipeFault.{PipeFault}
 use Rattle.pipe_walk.specs.declared.fault.PipeFault.TheVariants as pipe
-use Rattle.lithe_call.specs.Faults.{IsUnpiped, SpellUnpiped, IsNoRun, TellsUnpiped}
-use Rattle.lithe_call.specs.Lines.{TellsRefusal, TellsCrossing}
+use Rattle.lithe_call.specs.Faults.{IsUnpiped, SpellUnpiped, IsNoRun, PrintsUnpiped}
+use Rattle.lithe_call.specs.Lines.{PrintsRefusal, PrintsCrossing}
 use Rattle.lithe_call.specs.Pipelines.{IsPiped}
 use Rattle.lithe_call.specs.declared.fault.Fault.{Fault}
 use Rattle.lithe_call.specs.declared.fault.Fault.TheVariants as fault
@@ -29,40 +29,40 @@ unpiped_refused harts program line (inl check) is =
 unpiped_refused harts program line (inr crossed) is = crossed_uncrossed program crossed.fault crossed.real crossed.is is.uncrossed
 
 pub unpiped_line : (harts : ℕ) (bytes : List ℕ) (program : ProgramTree) (why : Fault) → length bytes ≤ 65536 → Spells bytes program
-    → TellsUnpiped harts program why → IsNoRun (SpellUnpiped harts) bytes why
-unpiped_line harts bytes program fault.Usage short spelled tells = absurd tells
-unpiped_line harts bytes program fault.TooLong short spelled tells = absurd tells
-unpiped_line harts bytes program fault.ReadFault short spelled tells = absurd tells
-unpiped_line harts bytes program (fault.Syntax line) short spelled tells = absurd tells
-unpiped_line harts bytes program (fault.Refused line) short spelled tells = record {
+    → PrintsUnpiped harts program why → IsNoRun (SpellUnpiped harts) bytes why
+unpiped_line harts bytes program fault.Usage short spelled prints = absurd prints
+unpiped_line harts bytes program fault.TooLong short spelled prints = absurd prints
+unpiped_line harts bytes program fault.ReadFault short spelled prints = absurd prints
+unpiped_line harts bytes program (fault.Syntax line) short spelled prints = absurd prints
+unpiped_line harts bytes program (fault.Refused line) short spelled prints = record {
   short = short;
   program = program;
   spelled = spelled;
-  refused = unpiped_refused harts program line.items tells;
-  first = tells;
+  refused = unpiped_refused harts program line.items prints;
+  first = prints;
 }
-unpiped_line harts bytes program fault.Memory short spelled tells = tt
+unpiped_line harts bytes program fault.Memory short spelled prints = tt
 
 -- The check refuses the program.
-pub check_told : (harts : ℕ) (program : ProgramTree) (cause : CheckFault) (why : Fault) → TellsRefusal program cause why
-    → (cause ≡ check.Memory) ⊎ (check_fault_of program harts ≡ Some cause) → TellsUnpiped harts program why
-check_told harts program cause fault.Usage tells first = absurd tells
-check_told harts program cause fault.TooLong tells first = absurd tells
-check_told harts program cause fault.ReadFault tells first = absurd tells
-check_told harts program cause (fault.Syntax line) tells first = absurd tells
-check_told harts program cause (fault.Refused line) tells first = elim first [
-  | inl memory ↦ absurd (tells.0 memory)
-  | inr is ↦ inl (record { fault = cause; is = is; real = tells.0; told = tells.1 })
+pub check_printed : (harts : ℕ) (program : ProgramTree) (cause : CheckFault) (why : Fault) → PrintsRefusal program cause why
+    → (cause ≡ check.Memory) ⊎ (check_fault_of program harts ≡ Some cause) → PrintsUnpiped harts program why
+check_printed harts program cause fault.Usage prints first = absurd prints
+check_printed harts program cause fault.TooLong prints first = absurd prints
+check_printed harts program cause fault.ReadFault prints first = absurd prints
+check_printed harts program cause (fault.Syntax line) prints first = absurd prints
+check_printed harts program cause (fault.Refused line) prints first = elim first [
+  | inl memory ↦ absurd (prints.0 memory)
+  | inr is ↦ inl (record { fault = cause; is = is; real = prints.0; printed = prints.1 })
 ]
-check_told harts program cause fault.Memory tells first = tt
+check_printed harts program cause fault.Memory prints first = tt
 
 -- Two pieces of the program cross.
-pub crossing_told : (harts : ℕ) (program : ProgramTree) (cause : PipeFault) (why : Fault) → IsAcceptedFor program harts → TellsCrossing program cause why
-    → IsFaultOf program cause → TellsUnpiped harts program why
-crossing_told harts program cause fault.Usage accepted tells is = absurd tells
-crossing_told harts program cause fault.TooLong accepted tells is = absurd tells
-crossing_told harts program cause fault.ReadFault accepted tells is = absurd tells
-crossing_told harts program cause (fault.Syntax line) accepted tells is = absurd tells
-crossing_told harts program cause (fault.Refused line) accepted tells is =
-    inr (record { accepted = accepted; fault = cause; is = is; real = tells.0; told = tells.1 })
-crossing_told harts program cause fault.Memory accepted tells is = tt
+pub crossing_printed : (harts : ℕ) (program : ProgramTree) (cause : PipeFault) (why : Fault) → IsAcceptedFor program harts → PrintsCrossing program cause why
+    → IsFaultOf program cause → PrintsUnpiped harts program why
+crossing_printed harts program cause fault.Usage accepted prints is = absurd prints
+crossing_printed harts program cause fault.TooLong accepted prints is = absurd prints
+crossing_printed harts program cause fault.ReadFault accepted prints is = absurd prints
+crossing_printed harts program cause (fault.Syntax line) accepted prints is = absurd prints
+crossing_printed harts program cause (fault.Refused line) accepted prints is =
+    inr (record { accepted = accepted; fault = cause; is = is; real = prints.0; printed = prints.1 })
+crossing_printed harts program cause fault.Memory accepted prints is = tt

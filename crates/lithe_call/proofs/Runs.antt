@@ -21,8 +21,8 @@ final_cells program =
     length_after (writes_of arrays (sequence_work program.body []) (first_store arrays)) (first_store arrays) ∙ length-replicate (cells_of arrays) (pos 0)
 
 -- A plan with the parents of the program's plan.
-pub told_plan : (plan : Plan) (program : ProgramTree) → plan.parents ≡ (table_plan program plan.harts).parents → plan ≡ table_plan program plan.harts
-told_plan plan program same = let with_parents : List ℕ → Plan = λ parents. record { harts = plan.harts; parents = parents } in ap with_parents same
+pub printed_plan : (plan : Plan) (program : ProgramTree) → plan.parents ≡ (table_plan program plan.harts).parents → plan ≡ table_plan program plan.harts
+printed_plan plan program same = let with_parents : List ℕ → Plan = λ parents. record { harts = plan.harts; parents = parents } in ap with_parents same
 
 pub summarised : {T F : Type 0} (r : Result T F) (view : T → List ℕ) (program : ProgramTree) (harts : ℕ) (plan : Plan) (store : Store) (journal : List Entry)
     → plan ≡ table_plan program harts → store ≡ final_store program → IsComplete plan (entered_of program) journal

@@ -9,15 +9,15 @@ use Rattle.lithe_call.specs.Faults.{IsFault}
 use Rattle.lithe_call.specs.FaultOf.{status_of, line_of}
 use Rattle.lithe_call.specs.Served.{IsOutputFor, WritesOutput, Outside, AreServed}
 use Rattle.lithe_call.specs.Status.{constant_text}
-use Rattle.lithe_call.specs.Telling.{AppendsPrefix, Tells}
+use Rattle.lithe_call.specs.Printing.{AppendsPrefix, Prints}
 use Rattle.lithe_call.specs.declared.answer.Ending.{Ending}
 use Rattle.lithe_call.specs.declared.answer.Ending.TheVariants as ending
 use Rattle.lithe_call.specs.declared.fault.Fault.{Fault}
 use Rattle.lithe_call.specs.declared.fault.Fault.TheVariants as fault
 use Rattle.lithe_call.specs.declared.status.Status.{Status}
 use Rattle.lithe_call.specs.declared.status.Status.TheVariants as status
-use Rattle.lithe_call.proofs.Causes.{fault_told}
-use Rattle.lithe_call.proofs.Endings.{only_memory, one_ending, too_long_told, read_fault_told}
+use Rattle.lithe_call.proofs.Causes.{fault_printed}
+use Rattle.lithe_call.proofs.Endings.{only_memory, one_ending, too_long_printed, read_fault_printed}
 
 -- ---- a fault's status
 
@@ -38,28 +38,28 @@ no_write (fault.Syntax line) e = cc e
 no_write (fault.Refused line) e = cc e
 no_write fault.Memory e = cc e
 
-usage_told : (words : List (List ℕ)) (why : Fault) (left left' : Option (List ℕ)) (faults faults' : ℕ)
+usage_printed : (words : List (List ℕ)) (why : Fault) (left left' : Option (List ℕ)) (faults faults' : ℕ)
     → IsFault words why left left' faults faults' → status_of why ≡ status.Usage → form_of words ≡ None
-usage_told words fault.Usage left left' faults faults' h e = h
-usage_told words fault.TooLong left left' faults faults' h e = cc e
-usage_told words fault.ReadFault left left' faults faults' h e = cc e
-usage_told words (fault.Syntax line) left left' faults faults' h e = cc e
-usage_told words (fault.Refused line) left left' faults faults' h e = cc e
-usage_told words fault.Memory left left' faults faults' h e = cc e
+usage_printed words fault.Usage left left' faults faults' h e = h
+usage_printed words fault.TooLong left left' faults faults' h e = cc e
+usage_printed words fault.ReadFault left left' faults faults' h e = cc e
+usage_printed words (fault.Syntax line) left left' faults faults' h e = cc e
+usage_printed words (fault.Refused line) left left' faults faults' h e = cc e
+usage_printed words fault.Memory left left' faults faults' h e = cc e
 
 -- Words that are no form have no command.
 formless : {X : Type 0} (words : List (List ℕ)) (command : Command) → form_of words ≡ Some command → form_of words ≡ None → X
 formless words command is none = let bad : Some command ≡ None = sym is ∙ none in cc bad
 
-no_form_told : (words : List (List ℕ)) (why : Fault) (left left' : Option (List ℕ)) (faults faults' : ℕ)
+no_form_printed : (words : List (List ℕ)) (why : Fault) (left left' : Option (List ℕ)) (faults faults' : ℕ)
     → IsFault words why left left' faults faults' → form_of words ≡ None
     → (status_of why ≡ status.Usage) ⊎ (status_of why ≡ status.NoMemory)
-no_form_told words fault.Usage left left' faults faults' h none = inl refl
-no_form_told words fault.TooLong left left' faults faults' h none = formless words h.0 h.1 none
-no_form_told words fault.ReadFault left left' faults faults' h none = formless words h.0 h.1 none
-no_form_told words (fault.Syntax line) left left' faults faults' h none = formless words h.0 h.1 none
-no_form_told words (fault.Refused line) left left' faults faults' h none = formless words h.0 h.1 none
-no_form_told words fault.Memory left left' faults faults' h none = inr refl
+no_form_printed words fault.Usage left left' faults faults' h none = inl refl
+no_form_printed words fault.TooLong left left' faults faults' h none = formless words h.0 h.1 none
+no_form_printed words fault.ReadFault left left' faults faults' h none = formless words h.0 h.1 none
+no_form_printed words (fault.Syntax line) left left' faults faults' h none = formless words h.0 h.1 none
+no_form_printed words (fault.Refused line) left left' faults faults' h none = formless words h.0 h.1 none
+no_form_printed words fault.Memory left left' faults faults' h none = inr refl
 
 -- ---- the status of an ending
 written : (ended : Ending) (s : Status) → status_of_ending ended ≡ s → (s ≡ status.Done) ⊎ (s ≡ status.Illegal)
@@ -74,9 +74,9 @@ module _ {A B E : Type 0} (see : Outside A B E) (words : List (List ℕ)) (sourc
 
   pub fault_served : (why : Fault) (out : B) (err err' : E)
       → IsFault words why (see.left source) (see.left source') (see.read_faults source) (see.read_faults source')
-      → Stays → Tells (see.told err) (see.tell_faults err) (line_of why) (see.told err') (see.tell_faults err')
+      → Stays → Prints (see.printed err) (see.print_faults err) (line_of why) (see.printed err') (see.print_faults err')
       → AreServed see words (status_of why) source source' out out err err'
-  fault_served why out err err' is stays tells =
+  fault_served why out err err' is stays prints =
       let left = see.left source in
       let left' = see.left source' in
       let faults = see.read_faults source in
@@ -85,12 +85,12 @@ module _ {A B E : Type 0} (see : Outside A B E) (words : List (List ℕ)) (sourc
         done = λ e. absurd (no_output why (inl e));
         illegal = λ e. absurd (no_output why (inr e));
         complete = λ command form bytes input ended ends calm quiet. only_memory words why left left' faults faults' is command form bytes input ended ends calm;
-        usage = usage_told words why left left' faults faults' is;
-        no_form = no_form_told words why left left' faults faults' is;
-        too_long = too_long_told words why left left' faults faults' is;
-        read_fault = read_fault_told words why left left' faults faults' is;
+        usage = usage_printed words why left left' faults faults' is;
+        no_form = no_form_printed words why left left' faults faults' is;
+        too_long = too_long_printed words why left left' faults faults' is;
+        read_fault = read_fault_printed words why left left' faults faults' is;
         write_fault = λ e. absurd (no_write why e);
-        lines = λ not_done not_illegal. fault_told words why left left' (see.told err) faults faults' (see.tell_faults err) (see.told err') (see.tell_faults err') is tells;
+        lines = λ not_done not_illegal. fault_printed words why left left' (see.printed err) faults faults' (see.print_faults err) (see.printed err') (see.print_faults err') is prints;
         prefix = λ e. absurd (no_write why e);
         source_stays = stays.0;
         made_from_nothing = stays.1;
@@ -101,9 +101,9 @@ module _ {A B E : Type 0} (see : Outside A B E) (words : List (List ℕ)) (sourc
   module _ (ended : Ending) (text : List ℕ) (out out' : B) (err err' : E)
       (output : IsOutputFor words (see.left source) (see.left source') (status_of_ending ended) text) (stays : Stays) where
     pub part_served : Rose (see.write_faults out) (see.write_faults out') → AppendsPrefix (see.taken out) text (see.taken out')
-        → Tells (see.told err) (see.tell_faults err) (constant_text status.WriteFault) (see.told err') (see.tell_faults err')
+        → Prints (see.printed err) (see.print_faults err) (constant_text status.WriteFault) (see.printed err') (see.print_faults err')
         → AreServed see words status.WriteFault source source' out out' err err'
-    part_served rose taken tells = record {
+    part_served rose taken prints = record {
       done = λ e. cc e;
       illegal = λ e. cc e;
       complete = λ command form bytes input ended ends calm quiet. absurd (quiet rose);
@@ -112,7 +112,7 @@ module _ {A B E : Type 0} (see : Outside A B E) (words : List (List ℕ)) (sourc
       too_long = λ e. cc e;
       read_fault = λ e. cc e;
       write_fault = λ e. rose;
-      lines = λ not_done not_illegal. record { text = constant_text status.WriteFault; right = refl; tells = tells };
+      lines = λ not_done not_illegal. record { text = constant_text status.WriteFault; right = refl; prints = prints };
       prefix = λ e. record { status = status_of_ending ended; text = text; output = output; written = taken };
       source_stays = stays.0;
       made_from_nothing = stays.1;

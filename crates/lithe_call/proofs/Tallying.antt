@@ -15,12 +15,12 @@ use Rattle.disjoint_check.proofs.Accepting.{none_of_meaning, none_of_accepted}
 use Rattle.spread_laws.specs.Faults.{SpreadFault, spread_fault_of}
 use Rattle.spread_laws.specs.Served.{HasMeaning, IsTallyKept}
 use Rattle.spread_laws.specs.Spread.{spread_of}
-use Rattle.tally_cells.specs.FaultOf.{told_of}
+use Rattle.tally_cells.specs.FaultOf.{printed_of}
 use Rattle.tally_cells.specs.declared.fault.TallyFault.{TallyFault}
 use Rattle.tally_cells.specs.declared.fault.TallyFault.TheVariants as tally
 use Rattle.error_text.specs.TallyText.{tally_text}
-use Rattle.lithe_call.specs.Faults.{IsToldFault, IsUntallied, SpellUntallied, IsNoRun, TellsUntallied}
-use Rattle.lithe_call.specs.Lines.{TellsRefusal, TellsTally}
+use Rattle.lithe_call.specs.Faults.{IsPrintedFault, IsUntallied, SpellUntallied, IsNoRun, PrintsUntallied}
+use Rattle.lithe_call.specs.Lines.{PrintsRefusal, PrintsTally}
 use Rattle.lithe_call.specs.Tallies.{IsTallied}
 use Rattle.lithe_call.specs.declared.fault.Fault.{Fault}
 use Rattle.lithe_call.specs.declared.fault.Fault.TheVariants as fault
@@ -51,68 +51,68 @@ untallied_refused harts program line (inr (inr rows)) is =
     let bad : None ≡ Some rows.first.fault = sym none ∙ rows.first.is in cc bad
 
 pub untallied_line : (harts : ℕ) (bytes : List ℕ) (program : ProgramTree) (why : Fault) → length bytes ≤ 65536 → Spells bytes program
-    → TellsUntallied harts program why → IsNoRun (SpellUntallied harts) bytes why
-untallied_line harts bytes program fault.Usage short spelled tells = absurd tells
-untallied_line harts bytes program fault.TooLong short spelled tells = absurd tells
-untallied_line harts bytes program fault.ReadFault short spelled tells = absurd tells
-untallied_line harts bytes program (fault.Syntax line) short spelled tells = absurd tells
-untallied_line harts bytes program (fault.Refused line) short spelled tells = record {
+    → PrintsUntallied harts program why → IsNoRun (SpellUntallied harts) bytes why
+untallied_line harts bytes program fault.Usage short spelled prints = absurd prints
+untallied_line harts bytes program fault.TooLong short spelled prints = absurd prints
+untallied_line harts bytes program fault.ReadFault short spelled prints = absurd prints
+untallied_line harts bytes program (fault.Syntax line) short spelled prints = absurd prints
+untallied_line harts bytes program (fault.Refused line) short spelled prints = record {
   short = short;
   program = program;
   spelled = spelled;
-  refused = untallied_refused harts program line.items tells;
-  first = tells;
+  refused = untallied_refused harts program line.items prints;
+  first = prints;
 }
-untallied_line harts bytes program fault.Memory short spelled tells = tt
+untallied_line harts bytes program fault.Memory short spelled prints = tt
 
 -- The program's meaning is refused.
-pub meaning_told : (harts : ℕ) (program : ProgramTree) (cause : CheckFault) (why : Fault) → TellsRefusal program cause why
-    → (cause ≡ check.Memory) ⊎ (meaning_fault_of program harts ≡ Some cause) → TellsUntallied harts program why
-meaning_told harts program cause fault.Usage tells first = absurd tells
-meaning_told harts program cause fault.TooLong tells first = absurd tells
-meaning_told harts program cause fault.ReadFault tells first = absurd tells
-meaning_told harts program cause (fault.Syntax line) tells first = absurd tells
-meaning_told harts program cause (fault.Refused line) tells first = elim first [
-  | inl memory ↦ absurd (tells.0 memory)
-  | inr is ↦ inl (record { fault = cause; is = is; real = tells.0; told = tells.1 })
+pub meaning_printed : (harts : ℕ) (program : ProgramTree) (cause : CheckFault) (why : Fault) → PrintsRefusal program cause why
+    → (cause ≡ check.Memory) ⊎ (meaning_fault_of program harts ≡ Some cause) → PrintsUntallied harts program why
+meaning_printed harts program cause fault.Usage prints first = absurd prints
+meaning_printed harts program cause fault.TooLong prints first = absurd prints
+meaning_printed harts program cause fault.ReadFault prints first = absurd prints
+meaning_printed harts program cause (fault.Syntax line) prints first = absurd prints
+meaning_printed harts program cause (fault.Refused line) prints first = elim first [
+  | inl memory ↦ absurd (prints.0 memory)
+  | inr is ↦ inl (record { fault = cause; is = is; real = prints.0; printed = prints.1 })
 ]
-meaning_told harts program cause fault.Memory tells first = tt
+meaning_printed harts program cause fault.Memory prints first = tt
 
 -- The program's adds are refused.
-given_fault : (found : Option SpreadFault) (cause : TallyFault) → option_map told_of found ≡ Some cause → (f : SpreadFault) × (found ≡ Some f) × (told_of f ≡ cause)
+given_fault : (found : Option SpreadFault) (cause : TallyFault) → option_map printed_of found ≡ Some cause → (f : SpreadFault) × (found ≡ Some f) × (printed_of f ≡ cause)
 given_fault None cause e = cc e
-given_fault (Some f) cause e = (f, refl, same_Some (told_of f) cause e)
+given_fault (Some f) cause e = (f, refl, same_Some (printed_of f) cause e)
 
-pub adds_told : (harts : ℕ) (program : ProgramTree) (cause : TallyFault) (why : Fault) → HasMeaningFor program harts → TellsTally cause why
-    → (cause ≡ tally.Memory) ⊎ (option_map told_of (spread_fault_of program) ≡ Some cause) → TellsUntallied harts program why
-adds_told harts program cause fault.Usage meaning tells first = absurd tells
-adds_told harts program cause fault.TooLong meaning tells first = absurd tells
-adds_told harts program cause fault.ReadFault meaning tells first = absurd tells
-adds_told harts program cause (fault.Syntax line) meaning tells first = absurd tells
-adds_told harts program cause (fault.Refused line) meaning tells first = elim first [
-  | inl memory ↦ absurd (tells.0 memory)
+pub adds_printed : (harts : ℕ) (program : ProgramTree) (cause : TallyFault) (why : Fault) → HasMeaningFor program harts → PrintsTally cause why
+    → (cause ≡ tally.Memory) ⊎ (option_map printed_of (spread_fault_of program) ≡ Some cause) → PrintsUntallied harts program why
+adds_printed harts program cause fault.Usage meaning prints first = absurd prints
+adds_printed harts program cause fault.TooLong meaning prints first = absurd prints
+adds_printed harts program cause fault.ReadFault meaning prints first = absurd prints
+adds_printed harts program cause (fault.Syntax line) meaning prints first = absurd prints
+adds_printed harts program cause (fault.Refused line) meaning prints first = elim first [
+  | inl memory ↦ absurd (prints.0 memory)
   | inr is ↦ let given = given_fault (spread_fault_of program) cause is in
-      inr (inl (record { meaning = meaning; fault = given.0; first = given.1; told = tells.1 ∙ ap tally_text (sym given.2) }))
+      inr (inl (record { meaning = meaning; fault = given.0; first = given.1; printed = prints.1 ∙ ap tally_text (sym given.2) }))
 ]
-adds_told harts program cause fault.Memory meaning tells first = tt
+adds_printed harts program cause fault.Memory meaning prints first = tt
 
 -- The spread program is refused.
-pub rows_told : (harts : ℕ) (program rows : ProgramTree) (cause : CheckFault) (why : Fault) → HasMeaningFor program harts → spread_fault_of program ≡ None
-    → rows ≡ spread_of program → TellsRefusal rows cause why → (cause ≡ check.Memory) ⊎ (check_fault_of rows harts ≡ Some cause) → TellsUntallied harts program why
-rows_told harts program rows cause fault.Usage meaning shaped same tells first = absurd tells
-rows_told harts program rows cause fault.TooLong meaning shaped same tells first = absurd tells
-rows_told harts program rows cause fault.ReadFault meaning shaped same tells first = absurd tells
-rows_told harts program rows cause (fault.Syntax line) meaning shaped same tells first = absurd tells
-rows_told harts program rows cause (fault.Refused line) meaning shaped same tells first = elim first [
-  | inl memory ↦ absurd (tells.0 memory)
+pub rows_printed : (harts : ℕ) (program rows : ProgramTree) (cause : CheckFault) (why : Fault) → HasMeaningFor program harts → spread_fault_of program ≡ None
+    → rows ≡ spread_of program → PrintsRefusal rows cause why → (cause ≡ check.Memory) ⊎ (check_fault_of rows harts ≡ Some cause) → PrintsUntallied harts program why
+rows_printed harts program rows cause fault.Usage meaning shaped same prints first = absurd prints
+rows_printed harts program rows cause fault.TooLong meaning shaped same prints first = absurd prints
+rows_printed harts program rows cause fault.ReadFault meaning shaped same prints first = absurd prints
+rows_printed harts program rows cause (fault.Syntax line) meaning shaped same prints first = absurd prints
+rows_printed harts program rows cause (fault.Refused line) meaning shaped same prints first = elim first [
+  | inl memory ↦ absurd (prints.0 memory)
   | inr is ↦ inr (inr (record {
     meaning = meaning;
     shaped = shaped;
-    first = subst (λ (p : ProgramTree). IsToldFault (check_fault_of p harts) p line.items) same
-        (record { fault = cause; is = is; real = tells.0; told = tells.1 });
+    first = subst (λ (p : ProgramTree). IsPrintedFault (check_fault_of p harts) p line.items) same
+        (record { fault = cause; is = is; real = prints.0; printed = prints.1 });
   }))
 ]
-rows_told harts program rows cause fault.Memory meaning shaped same tells first = tt
+rows_printed harts program rows cause fault.Memory meaning shaped same prints first = tt
 
 -- ---- the cells of the given program are the first cells of the spread one
 pub kept_cells : (program rows : ProgramTree) (store : Store) → IsTallyKept program rows → store ≡ final_store rows

@@ -18,7 +18,7 @@ use Rattle.pipe_walk.specs.declared.fault.PipeFault.{PipeFault}
 use Rattle.pipe_walk.specs.declared.fault.PipeFault.TheVariants as pipe
 use Rattle.spread_laws.specs.Faults.{SpreadFault, spread_fault_of}
 use Rattle.spread_laws.specs.Spread.{spread_of}
-use Rattle.tally_cells.specs.FaultOf.{told_of}
+use Rattle.tally_cells.specs.FaultOf.{printed_of}
 use Rattle.lithe_call.specs.Inputs.{ReadsAll, GivesTooMuch, FailsToRead}
 use Rattle.lithe_call.specs.Programs.{made_text, SpellAccepted}
 use Rattle.lithe_call.specs.Tallies.{IsTallied}
@@ -41,14 +41,14 @@ pub record SpellNothing (bytes line : List ℕ) : Type 0 where
   pub fault : SyntaxFault
   pub first : HasFault bytes fault
   pub real : fault ≢ syntax.Memory
-  pub told : line ≡ syntax_text fault
+  pub printed : line ≡ syntax_text fault
 
 -- The line reports this fault of the program, which isn't an allocation failure.
-pub record IsToldFault (found : Option CheckFault) (program : ProgramTree) (line : List ℕ) : Type 0 where
+pub record IsPrintedFault (found : Option CheckFault) (program : ProgramTree) (line : List ℕ) : Type 0 where
   pub fault : CheckFault
   pub is : found ≡ Some fault
   pub real : fault ≢ check.Memory
-  pub told : line ≡ refusal_text program fault
+  pub printed : line ≡ refusal_text program fault
 
 -- Bytes within the limit spell a program that isn't accepted for so many harts, and the line names the first condition that it
 -- fails.
@@ -57,27 +57,27 @@ pub record SpellRefused (harts : ℕ) (bytes line : List ℕ) : Type 0 where
   pub program : ProgramTree
   pub spelled : Spells bytes program
   pub refused : IsAcceptedFor program harts → ⊥
-  pub first : IsToldFault (check_fault_of program harts) program line
+  pub first : IsPrintedFault (check_fault_of program harts) program line
 
 -- The program has a meaning, but its adds can't have rows of their own, and the line reports why.
 pub record IsUnspread (harts : ℕ) (program : ProgramTree) (line : List ℕ) : Type 0 where
   pub meaning : HasMeaningFor program harts
   pub fault : SpreadFault
   pub first : spread_fault_of program ≡ Some fault
-  pub told : line ≡ tally_text (told_of fault)
+  pub printed : line ≡ tally_text (printed_of fault)
 
 -- The program has a meaning and its adds can have rows, but with them it isn't accepted, and the line is about the program with
 -- rows.
 pub record IsSpreadRefused (harts : ℕ) (program : ProgramTree) (line : List ℕ) : Type 0 where
   pub meaning : HasMeaningFor program harts
   pub shaped : spread_fault_of program ≡ None
-  pub first : IsToldFault (check_fault_of (spread_of program) harts) (spread_of program) line
+  pub first : IsPrintedFault (check_fault_of (spread_of program) harts) (spread_of program) line
 
 -- The first of the three conditions for which `tally` refuses a program: its meaning, its adds, or the check of the program
 -- with rows.
 abbrev pub IsUntallied : ℕ → ProgramTree → List ℕ → Type 0
 IsUntallied harts program line =
-    IsToldFault (meaning_fault_of program harts) program line
+    IsPrintedFault (meaning_fault_of program harts) program line
     ⊎ (IsUnspread harts program line ⊎ IsSpreadRefused harts program line)
 
 -- Bytes within the limit spell a program that can't be tallied by so many harts, and the line reports why.
@@ -95,12 +95,12 @@ pub record IsCrossed (harts : ℕ) (program : ProgramTree) (line : List ℕ) : T
   pub fault : PipeFault
   pub is : IsFaultOf program fault
   pub real : fault ≢ pipe.Memory
-  pub told : line ≡ crossing_text program fault
+  pub printed : line ≡ crossing_text program fault
 
 -- The first of the two conditions for which `pipe` refuses a program: the check, or the check for crossings.
 abbrev pub IsUnpiped : ℕ → ProgramTree → List ℕ → Type 0
 IsUnpiped harts program line =
-    IsToldFault (check_fault_of program harts) program line ⊎ IsCrossed harts program line
+    IsPrintedFault (check_fault_of program harts) program line ⊎ IsCrossed harts program line
 
 -- Bytes within the limit spell a program that can't be piped by so many harts, and the line reports why.
 pub record SpellUnpiped (harts : ℕ) (bytes line : List ℕ) : Type 0 where
@@ -113,7 +113,7 @@ pub record SpellUnpiped (harts : ℕ) (bytes line : List ℕ) : Type 0 where
 -- The input has no line `%%`, and the line reports that.
 pub record HasNoMark (bytes line : List ℕ) : Type 0 where
   pub none : parts_of bytes ≡ None
-  pub told : line ≡ codes "syntax: no line %%" ++ 10 ∷ []
+  pub printed : line ≡ codes "syntax: no line %%" ++ 10 ∷ []
 
 -- A first part that spells an accepted program, and a second part that is no output's text. The line reports its first fault,
 -- which isn't an allocation failure.
@@ -123,7 +123,7 @@ pub record AreNoOutput (harts : ℕ) (line first second : List ℕ) : Type 0 whe
   pub fault : TextFault
   pub found : found_in harts program second ≡ Err fault
   pub real : fault ≢ text.Memory
-  pub told : line ≡ text_fault_text fault
+  pub printed : line ≡ text_fault_text fault
 
 -- The first part spells no program, or the second part is no output's text.
 abbrev pub AreNoText : ℕ → List ℕ → List ℕ → List ℕ → Type 0
@@ -186,16 +186,16 @@ IsNoRun AreRefused bytes fault.Memory = Unit {0}
 IsNoRun AreRefused bytes why = ⊥
 
 -- The fault reports why the program can't be tallied, or an allocation failed.
-abbrev pub TellsUntallied : ℕ → ProgramTree → Fault → Type 0
-TellsUntallied harts program (fault.Refused line) = IsUntallied harts program line.items
-TellsUntallied harts program fault.Memory = Unit {0}
-TellsUntallied harts program why = ⊥
+abbrev pub PrintsUntallied : ℕ → ProgramTree → Fault → Type 0
+PrintsUntallied harts program (fault.Refused line) = IsUntallied harts program line.items
+PrintsUntallied harts program fault.Memory = Unit {0}
+PrintsUntallied harts program why = ⊥
 
 -- The fault reports why the program can't be piped, or an allocation failed.
-abbrev pub TellsUnpiped : ℕ → ProgramTree → Fault → Type 0
-TellsUnpiped harts program (fault.Refused line) = IsUnpiped harts program line.items
-TellsUnpiped harts program fault.Memory = Unit {0}
-TellsUnpiped harts program why = ⊥
+abbrev pub PrintsUnpiped : ℕ → ProgramTree → Fault → Type 0
+PrintsUnpiped harts program (fault.Refused line) = IsUnpiped harts program line.items
+PrintsUnpiped harts program fault.Memory = Unit {0}
+PrintsUnpiped harts program why = ⊥
 
 -- The command has no output for these bytes, for this cause.
 abbrev pub IsNoOutput : Command → List ℕ → Fault → Type 0

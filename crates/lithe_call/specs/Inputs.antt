@@ -3,7 +3,7 @@ use Rattle.std.specs.Prelude.{◌≡◌, ℕ, List, Option, Some}
 use Rattle.array_meaning.specs.Bounds.{most_bytes}
 use Rattle.outside_io.specs.Outside.{Rose}
 use Rattle.run_audit.specs.Parts.{most_audited}
-use Rattle.lithe_call.specs.Telling.{GivesWithin, GivesMore}
+use Rattle.lithe_call.specs.Printing.{GivesWithin, GivesMore}
 use Rattle.command_words.specs.declared.command.Command.{Command}
 use Rattle.command_words.specs.declared.command.Command.TheVariants.{Audit, Make}
 

@@ -1,4 +1,4 @@
-pub mod Telling
+pub mod Printing
 pub mod Command
 pub mod Programs
 pub mod Tallies
@@ -11,4 +11,4 @@ pub mod FaultOf
 pub mod Status
 pub mod Served
 pub mod Lines
-pub mod Told
+pub mod Printed

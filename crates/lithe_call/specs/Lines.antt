@@ -20,33 +20,33 @@ use Rattle.lithe_call.specs.declared.fault.Fault.{Fault}
 use Rattle.lithe_call.specs.declared.fault.Fault.TheVariants as fault
 
 -- The fault reports the text's first error, or an allocation failed.
-abbrev pub TellsSyntax : SyntaxFault → Fault → Type 0
-TellsSyntax cause (fault.Syntax line) = (cause ≢ syntax.Memory) × (line.items ≡ syntax_text cause)
-TellsSyntax cause fault.Memory = Unit {0}
-TellsSyntax cause why = ⊥
+abbrev pub PrintsSyntax : SyntaxFault → Fault → Type 0
+PrintsSyntax cause (fault.Syntax line) = (cause ≢ syntax.Memory) × (line.items ≡ syntax_text cause)
+PrintsSyntax cause fault.Memory = Unit {0}
+PrintsSyntax cause why = ⊥
 
 -- The fault reports why the program isn't accepted, or an allocation failed.
-abbrev pub TellsRefusal : ProgramTree → CheckFault → Fault → Type 0
-TellsRefusal program cause (fault.Refused line) =
+abbrev pub PrintsRefusal : ProgramTree → CheckFault → Fault → Type 0
+PrintsRefusal program cause (fault.Refused line) =
     (cause ≢ check.Memory) × (line.items ≡ refusal_text program cause)
-TellsRefusal program cause fault.Memory = Unit {0}
-TellsRefusal program cause why = ⊥
+PrintsRefusal program cause fault.Memory = Unit {0}
+PrintsRefusal program cause why = ⊥
 
 -- The fault reports why the program can't be spread, or an allocation failed.
-abbrev pub TellsTally : TallyFault → Fault → Type 0
-TellsTally cause (fault.Refused line) = (cause ≢ tally.Memory) × (line.items ≡ tally_text cause)
-TellsTally cause fault.Memory = Unit {0}
-TellsTally cause why = ⊥
+abbrev pub PrintsTally : TallyFault → Fault → Type 0
+PrintsTally cause (fault.Refused line) = (cause ≢ tally.Memory) × (line.items ≡ tally_text cause)
+PrintsTally cause fault.Memory = Unit {0}
+PrintsTally cause why = ⊥
 
 -- The fault reports the crossing of two pieces, or an allocation failed.
-abbrev pub TellsCrossing : ProgramTree → PipeFault → Fault → Type 0
-TellsCrossing program cause (fault.Refused line) =
+abbrev pub PrintsCrossing : ProgramTree → PipeFault → Fault → Type 0
+PrintsCrossing program cause (fault.Refused line) =
     (cause ≢ pipe.Memory) × (line.items ≡ crossing_text program cause)
-TellsCrossing program cause fault.Memory = Unit {0}
-TellsCrossing program cause why = ⊥
+PrintsCrossing program cause fault.Memory = Unit {0}
+PrintsCrossing program cause why = ⊥
 
 -- The fault reports the first error of an output's text, or an allocation failed.
-abbrev pub TellsText : TextFault → Fault → Type 0
-TellsText cause (fault.Syntax line) = (cause ≢ text.Memory) × (line.items ≡ text_fault_text cause)
-TellsText cause fault.Memory = Unit {0}
-TellsText cause why = ⊥
+abbrev pub PrintsText : TextFault → Fault → Type 0
+PrintsText cause (fault.Syntax line) = (cause ≢ text.Memory) × (line.items ≡ text_fault_text cause)
+PrintsText cause fault.Memory = Unit {0}
+PrintsText cause why = ⊥

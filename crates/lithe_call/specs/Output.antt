@@ -76,7 +76,7 @@ pub record IsAuditOf (harts : ℕ) (bytes : List ℕ) (status : Status) (text : 
   pub verdict : Verdict
   pub has : HasVerdict harts bytes verdict
   pub same : status ≡ status_by verdict
-  pub told : text ≡ verdict_text verdict
+  pub printed : text ≡ verdict_text verdict
 
 -- The text is the output of the command for these bytes, with this status.
 abbrev pub IsOutputOf : Command → List ℕ → Status → List ℕ → Type 0

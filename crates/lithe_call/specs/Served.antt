@@ -2,7 +2,7 @@
 -- just these left. `make` reads none.
 use Rattle.std.specs.Prelude.{◌≡◌, ◌≢◌, ◌⊎◌, ℕ, List, Option, Some, None}
 use Rattle.outside_io.specs.Outside.{Rose, Appends}
-use Rattle.lithe_call.specs.Telling.{AppendsPrefix, Tells}
+use Rattle.lithe_call.specs.Printing.{AppendsPrefix, Prints}
 use Rattle.lithe_call.specs.Inputs.{AreInput, ReadsAll, GivesTooMuch, FailsToRead}
 use Rattle.lithe_call.specs.Output.{IsOutputOf, EndsWith}
 use Rattle.command_words.specs.Form.{form_of}
@@ -45,7 +45,7 @@ pub record IsTooLong (words : List (List ℕ)) (left left' : Option (List ℕ)) 
       ⊎ ((bytes : List ℕ) × ReadsAll command left bytes left' × IsLong command bytes)
 
 -- The line reports why the input of the words' command isn't of the form that it reads, or why the program is refused.
-pub record IsToldOf (IsSo : Command → List ℕ → List ℕ → Type 0) (words : List (List ℕ))
+pub record IsPrintedOf (IsSo : Command → List ℕ → List ℕ → Type 0) (words : List (List ℕ))
     (left left' : Option (List ℕ)) (line : List ℕ) : Type 0 where
   pub command : Command
   pub form : form_of words ≡ Some command
@@ -55,17 +55,17 @@ pub record IsToldOf (IsSo : Command → List ℕ → List ℕ → Type 0) (words
 
 -- The text is the status's, for the bytes that the source gave.
 abbrev pub IsTextOf : List (List ℕ) → Status → Option (List ℕ) → Option (List ℕ) → List ℕ → Type 0
-IsTextOf words Syntax left left' text = IsToldOf IsNoText words left left' text
-IsTextOf words Refused left left' text = IsToldOf IsRefused words left left' text
+IsTextOf words Syntax left left' text = IsPrintedOf IsNoText words left left' text
+IsTextOf words Refused left left' text = IsPrintedOf IsRefused words left left' text
 IsTextOf words status left left' text = text ≡ constant_text status
 
 -- The status's text was written to the sink, with its count of faults before and after.
-pub record TellsStatus (words : List (List ℕ)) (status : Status)
+pub record PrintsStatus (words : List (List ℕ)) (status : Status)
     (left left' taken : Option (List ℕ)) (faults : ℕ) (taken' : Option (List ℕ))
     (faults' : ℕ) : Type 0 where
   pub text : List ℕ
   pub right : IsTextOf words status left left' text
-  pub tells : Tells taken faults text taken' faults'
+  pub prints : Prints taken faults text taken' faults'
 
 -- The views of the outside for a call: the bytes that the source has left, the bytes that the sinks for the output and for
 -- errors have taken, and the count of faults of each.
@@ -74,8 +74,8 @@ pub record Outside (A B E : Type 0) : Type 0 where
   pub read_faults : A → ℕ
   pub taken : B → Option (List ℕ)
   pub write_faults : B → ℕ
-  pub told : E → Option (List ℕ)
-  pub tell_faults : E → ℕ
+  pub printed : E → Option (List ℕ)
+  pub print_faults : E → ℕ
 
 -- The words were served with this status. The arguments are the source, the sink and the sink for errors before and after.
 pub record AreServed {A B E : Type 0} (see : Outside A B E) (words : List (List ℕ)) (status : Status) (source source' : A)
@@ -103,8 +103,8 @@ pub record AreServed {A B E : Type 0} (see : Outside A B E) (words : List (List 
   pub read_fault : status ≡ ReadFault → Rose (see.read_faults source) (see.read_faults source')
   pub write_fault : status ≡ WriteFault → Rose (see.write_faults out) (see.write_faults out')
   pub lines : status ≢ Done → status ≢ Illegal
-      → TellsStatus words status (see.left source) (see.left source') (see.told err) (see.tell_faults err)
-      (see.told err') (see.tell_faults err')
+      → PrintsStatus words status (see.left source) (see.left source') (see.printed err) (see.print_faults err)
+      (see.printed err') (see.print_faults err')
   -- The bytes that the source gave and the sinks took with any other status.
   pub prefix : status ≡ WriteFault
       → WritesPrefix words (see.left source) (see.left source') (see.taken out) (see.taken out')

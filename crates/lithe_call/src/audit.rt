@@ -6,7 +6,7 @@ ghost use Rattle.run_audit.specs.Parts.{most_audited};
 ghost use Rattle.lithe_call.specs.Auditing.{AreFound, status_of_ending, status_by};
 ghost use Rattle.lithe_call.specs.Output.{IsAuditOf};
 ghost use Rattle.lithe_call.specs.Faults.{IsNoOutput, HaveNoVerdict};
-ghost use Rattle.lithe_call.specs.Lines.{TellsText};
+ghost use Rattle.lithe_call.specs.Lines.{PrintsText};
 
 use crate::answer::{Answer, Ending};
 use crate::command::MOST_BYTES;
@@ -86,7 +86,7 @@ fn verdict(alloc: Global, harts: u8, first: &[u8], second: &[u8]) -> Result<Verd
 
 /// The fault of a second part that is no output's text.
 pub fn text_fault(alloc: Global, fault: TextFault) -> Fault
-    ensures { TellsText fault result }
+    ensures { PrintsText fault result }
 {
     if fault == TextFault::Memory {
         return Fault::Memory;

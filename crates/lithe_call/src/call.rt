@@ -4,7 +4,7 @@ ghost use Rattle.array_meaning.specs.Bounds.{most_bytes};
 ghost use Rattle.command_words.specs.declared.command.Command.{Command};
 ghost use Rattle.command_words.specs.declared.command.Command.TheVariants.{Make};
 ghost use Rattle.lithe_call.specs.declared.status.Status.{Status};
-ghost use Rattle.lithe_call.specs.Telling.{Tells};
+ghost use Rattle.lithe_call.specs.Printing.{Prints};
 ghost use Rattle.command_words.specs.Form.{form_of};
 ghost use Rattle.command_words.specs.Parts.{harts_in, size_in};
 ghost use Rattle.lithe_call.specs.Command.{runs_programs};
@@ -18,7 +18,7 @@ ghost use Rattle.lithe_call.specs.Served.{IsOutputFor, AreServed};
 
 use crate::answer::{Answer, Ending};
 use crate::audit::audited;
-use crate::command::{asked_command, limit};
+use crate::command::{limit, parsed_command};
 use crate::fault::Fault;
 use crate::pipe::piped;
 use crate::reading::{ReadError, read_all};
@@ -62,15 +62,15 @@ pub fn lithe<R: Threads + Wait + Sync, A: Source, B: Sink, E: Sink, G: Gate>(
       read_faults = A.faults;
       taken = B.taken;
       write_faults = B.faults;
-      told = E.taken;
-      tell_faults = E.faults;
+      printed = E.taken;
+      print_faults = E.faults;
     }) (map string_bytes words.now) result source.old source.new out.old out.new err.old err.new }
 {
     match output_of(rt, alloc, gate, words, source) {
-        Err(fault) => tell_fault(err, &fault),
+        Err(fault) => print_fault(err, &fault),
         Ok(answer) => {
             if !write_all(out, &answer.text) {
-                tell(err, Status::WriteFault)
+                print(err, Status::WriteFault)
             } else {
                 status_of_ending(answer.ending)
             }
@@ -81,19 +81,19 @@ pub fn lithe<R: Threads + Wait + Sync, A: Source, B: Sink, E: Sink, G: Gate>(
 /// Ends a run whose words aren't text, and so are no form: writes this to `err`, as `lithe` does for words that are no form.
 pub fn no_form_for_words<E: Sink>(err: &mut E) -> Status
     ensures same { result ≡ Status.Usage }
-    ensures told { Tells (E.taken err.old) (E.faults err.old) (constant_text Status.Usage)
+    ensures printed { Prints (E.taken err.old) (E.faults err.old) (constant_text Status.Usage)
         (E.taken err.new) (E.faults err.new) }
 {
-    tell(err, Status::Usage)
+    print(err, Status::Usage)
 }
 
 /// Ends a run that could not allocate its words: writes this to `err`, as `lithe` does for an allocation failure.
 pub fn no_memory_for_words<E: Sink>(err: &mut E) -> Status
     ensures same { result ≡ Status.NoMemory }
-    ensures told { Tells (E.taken err.old) (E.faults err.old) (constant_text Status.NoMemory)
+    ensures printed { Prints (E.taken err.old) (E.faults err.old) (constant_text Status.NoMemory)
         (E.taken err.new) (E.faults err.new) }
 {
-    tell(err, Status::NoMemory)
+    print(err, Status::NoMemory)
 }
 
 // The status of an output that was written.
@@ -107,9 +107,9 @@ fn status_of_ending(ending: Ending) -> Status
 }
 
 // Writes the line that reports the fault, and returns its status.
-fn tell_fault<E: Sink>(err: &mut E, fault: &Fault) -> Status
+fn print_fault<E: Sink>(err: &mut E, fault: &Fault) -> Status
     ensures same { result ≡ status_of fault.now }
-    ensures told { Tells (E.taken err.old) (E.faults err.old) (line_of fault.now)
+    ensures printed { Prints (E.taken err.old) (E.faults err.old) (line_of fault.now)
         (E.taken err.new) (E.faults err.new) }
 {
     let _ = write_all(err, fault.line());
@@ -117,9 +117,9 @@ fn tell_fault<E: Sink>(err: &mut E, fault: &Fault) -> Status
 }
 
 // Writes the status's text, if it is always the same, and returns the status.
-fn tell<E: Sink>(err: &mut E, status: Status) -> Status
+fn print<E: Sink>(err: &mut E, status: Status) -> Status
     ensures same { result ≡ status }
-    ensures told { Tells (E.taken err.old) (E.faults err.old) (constant_text status)
+    ensures printed { Prints (E.taken err.old) (E.faults err.old) (constant_text status)
         (E.taken err.new) (E.faults err.new) }
 {
     let _ = write_all(err, constant_text(status));
@@ -143,7 +143,7 @@ fn output_of<R: Threads + Wait + Sync, G: Gate, A: Source>(
         → form_of (map string_bytes words.now) ≡ Some (Make seed size harts)
         → source.new ≡ source.old }
 {
-    let command = asked_command(alloc, words)?;
+    let command = parsed_command(alloc, words)?;
     let bytes = input(alloc, source, command)?;
     answer_to(rt, alloc, gate, command, &bytes)
 }

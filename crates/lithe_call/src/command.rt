@@ -25,7 +25,7 @@ pub const MOST_AUDITED: usize = 4_194_304;
 /// # Memory
 ///
 /// It allocates the commands and the matches of `clap`.
-pub fn asked_command(alloc: Global, words: &[String]) -> Result<Command, Fault>
+pub fn parsed_command(alloc: Global, words: &[String]) -> Result<Command, Fault>
     ensures form { IfOk result (λ command. form_of (map string_bytes words.now) ≡ Some command) }
     ensures some_hart { IfOk result (λ command. 1 ≤ harts_in command) }
     ensures few_harts { IfOk result (λ command. harts_in command ≤ 16) }

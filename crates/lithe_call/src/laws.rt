@@ -5,11 +5,11 @@ ghost use Rattle.lithe_call.specs.declared.status.Status.{Status};
 ghost use Rattle.command_words.specs.Form.{form_of};
 ghost use Rattle.lithe_call.specs.Inputs.{limit_of, AreInput};
 ghost use Rattle.lithe_call.specs.Faults.{IsLong};
-ghost use Rattle.lithe_call.specs.Served.{WritesOutput, WritesPrefix, IsTooLong, TellsStatus};
-ghost use Rattle.lithe_call.specs.Told.{TookOutput, TookPrefix, ToldLine};
+ghost use Rattle.lithe_call.specs.Served.{WritesOutput, WritesPrefix, IsTooLong, PrintsStatus};
+ghost use Rattle.lithe_call.specs.Printed.{TookOutput, TookPrefix, PrintedLine};
 
 /// If the source showed its bytes beforehand, all that `lithe` wrote is the output for these bytes.
-pub fn told_bytes_are_served()
+pub fn printed_bytes_are_served()
     ensures done { (words : List (List ℕ)) (status : Status)
         (left left' taken taken' : Option (List ℕ))
         → WritesOutput words left left' status taken taken'
@@ -20,12 +20,12 @@ pub fn told_bytes_are_served()
         → WritesPrefix words left left' taken taken'
         → (command : Command) → form_of words ≡ Some command
         → (bytes : List ℕ) → AreInput command left bytes → TookPrefix command bytes taken taken' }
-    ensures told { (words : List (List ℕ)) (status : Status)
+    ensures printed { (words : List (List ℕ)) (status : Status)
         (left left' taken taken' : Option (List ℕ)) (faults faults' : ℕ)
-        → TellsStatus words status left left' taken faults taken' faults'
+        → PrintsStatus words status left left' taken faults taken' faults'
         → (command : Command) → form_of words ≡ Some command
         → (bytes : List ℕ) → AreInput command left bytes
-        → ToldLine command status bytes taken faults taken' faults' }
+        → PrintedLine command status bytes taken faults taken' faults' }
     ensures too_long { (words : List (List ℕ)) (left left' : Option (List ℕ))
         → IsTooLong words left left'
         → (command : Command) → form_of words ≡ Some command

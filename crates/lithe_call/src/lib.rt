@@ -23,9 +23,9 @@ mod writing;
 
 pub use audit::text_fault;
 pub use call::{lithe, no_form_for_words, no_memory_for_words};
-pub use command::{MOST_AUDITED, MOST_BYTES, asked_command, harts};
+pub use command::{MOST_AUDITED, MOST_BYTES, harts, parsed_command};
 pub use fault::Fault;
-pub use laws::told_bytes_are_served;
+pub use laws::printed_bytes_are_served;
 pub use pipe::crossing_fault;
 pub use reading::{ReadError, read_all};
 pub use run::{refusal, syntax_fault};

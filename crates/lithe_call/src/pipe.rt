@@ -4,7 +4,7 @@ ghost use Rattle.array_tree.specs.Trees.{program_of};
 ghost use Rattle.array_meaning.specs.Bounds.{most_bytes};
 ghost use Rattle.phase_order.specs.Crossings.{HasNoCrossings};
 ghost use Rattle.lithe_call.specs.Faults.{SpellUnpiped, IsNoRun};
-ghost use Rattle.lithe_call.specs.Lines.{TellsCrossing};
+ghost use Rattle.lithe_call.specs.Lines.{PrintsCrossing};
 ghost use Rattle.lithe_call.specs.Output.{IsRunOutput, IsPipeOf};
 
 use crate::fault::Fault;
@@ -62,7 +62,7 @@ pub fn piped<R: Threads + Wait + Sync, G: Gate>(
 
 /// The fault of a program with a crossing of two pieces.
 pub fn crossing_fault(alloc: Global, program: &Program, fault: PipeFault) -> Fault
-    ensures { TellsCrossing (program_of program.now) fault result }
+    ensures { PrintsCrossing (program_of program.now) fault result }
 {
     if fault == PipeFault::Memory {
         return Fault::Memory;

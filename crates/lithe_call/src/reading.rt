@@ -1,7 +1,7 @@
 //! Reads an input to its end.
 ghost use Rattle.std.specs.Prelude.{◌≡◌, ◌<◌, ◌≤◌, ◌^◌, IfOk, IsErrOf};
 ghost use Rattle.outside_io.specs.Outside.{Rose};
-ghost use Rattle.lithe_call.specs.Telling.{GivesWithin, GivesMore};
+ghost use Rattle.lithe_call.specs.Printing.{GivesWithin, GivesMore};
 
 use outside_io::{Fill, Source};
 use std::alloc::{AllocError, Global};

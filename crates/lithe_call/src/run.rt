@@ -5,7 +5,7 @@ ghost use Rattle.lithe_call.specs.Output.{IsOutput, IsRunOf, IsRunOutput, IsSumm
 ghost use Rattle.command_words.specs.Parts.{harts_in};
 ghost use Rattle.lithe_call.specs.Command.{runs_programs};
 ghost use Rattle.lithe_call.specs.Faults.{SpellRefused, IsNoRun};
-ghost use Rattle.lithe_call.specs.Lines.{TellsSyntax, TellsRefusal};
+ghost use Rattle.lithe_call.specs.Lines.{PrintsSyntax, PrintsRefusal};
 ghost use Rattle.array_meaning.specs.Bounds.{most_bytes};
 ghost use Rattle.array_meaning.specs.Work.{final_store};
 ghost use Rattle.array_meaning.specs.Entered.{entered_of};
@@ -70,7 +70,7 @@ pub fn answer<R: Threads + Wait + Sync, G: Gate>(
 
 /// The fault of a text that spells no program.
 pub fn syntax_fault(alloc: Global, fault: SyntaxFault) -> Fault
-    ensures { TellsSyntax fault result }
+    ensures { PrintsSyntax fault result }
 {
     if fault == SyntaxFault::Memory {
         return Fault::Memory;
@@ -83,7 +83,7 @@ pub fn syntax_fault(alloc: Global, fault: SyntaxFault) -> Fault
 
 /// The fault of a program that isn't accepted.
 pub fn refusal(alloc: Global, program: &Program, fault: CheckFault) -> Fault
-    ensures { TellsRefusal (program_of program.now) fault result }
+    ensures { PrintsRefusal (program_of program.now) fault result }
 {
     if fault == CheckFault::Memory {
         return Fault::Memory;

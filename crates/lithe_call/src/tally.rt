@@ -6,8 +6,8 @@ ghost use Rattle.disjoint_check.specs.Meaning.{HasMeaningFor};
 ghost use Rattle.spread_laws.specs.Faults.{spread_fault_of};
 ghost use Rattle.spread_laws.specs.Served.{HasMeaning, IsTallyKept};
 ghost use Rattle.spread_laws.specs.Spread.{spread_of};
-ghost use Rattle.lithe_call.specs.Faults.{TellsUntallied, SpellUntallied, IsNoRun};
-ghost use Rattle.lithe_call.specs.Lines.{TellsTally};
+ghost use Rattle.lithe_call.specs.Faults.{PrintsUntallied, SpellUntallied, IsNoRun};
+ghost use Rattle.lithe_call.specs.Lines.{PrintsTally};
 ghost use Rattle.lithe_call.specs.Output.{IsRunOutput, IsTallyOf};
 
 use crate::fault::Fault;
@@ -71,7 +71,7 @@ pub fn with_rows(alloc: Global, harts: u8, program: &Program) -> Result<Program,
     ensures kept { IfOk result (λ t. IsTallyKept (program_of program.now) (program_of t)) }
     ensures meaning { OnOk result (HasMeaningFor (program_of program.now) harts) }
     ensures shaped { OnOk result (spread_fault_of (program_of program.now) ≡ None) }
-    ensures fault { IfErr result (TellsUntallied harts (program_of program.now)) }
+    ensures fault { IfErr result (PrintsUntallied harts (program_of program.now)) }
 {
     if let Err(fault) = check_meaning(alloc, program, harts) {
         return Err(refusal(alloc, program, fault));
@@ -84,7 +84,7 @@ pub fn with_rows(alloc: Global, harts: u8, program: &Program) -> Result<Program,
 
 // The fault of a program that can't be spread.
 fn tally_fault(alloc: Global, fault: TallyFault) -> Fault
-    ensures { TellsTally fault result }
+    ensures { PrintsTally fault result }
 {
     if fault == TallyFault::Memory {
         return Fault::Memory;

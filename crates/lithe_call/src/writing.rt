@@ -1,7 +1,7 @@
 //! Writes a whole output.
 ghost use Rattle.std.specs.Prelude.{◌≤◌, IsTrue, IsFalse};
 ghost use Rattle.outside_io.specs.Outside.{Rose, Appends};
-ghost use Rattle.lithe_call.specs.Telling.{AppendsPrefix};
+ghost use Rattle.lithe_call.specs.Printing.{AppendsPrefix};
 
 use outside_io::{Put, Sink};
 

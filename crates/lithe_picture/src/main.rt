@@ -3,7 +3,7 @@
 
 ghost use Rattle.std.specs.Prelude.{◌≡◌, map, string_bytes, IfOk, IfErr, IsErrOf};
 ghost use Rattle.lithe_call.specs.declared.status.Status.{Status};
-ghost use Rattle.lithe_call.specs.Telling.{Tells};
+ghost use Rattle.lithe_call.specs.Printing.{Prints};
 ghost use Rattle.picture_call.specs.Shown.{AreShown};
 ghost use Rattle.picture_call.specs.Texts.{own_text};
 
@@ -25,8 +25,8 @@ fn serve<A: Source, B: Sink, E: Sink>(
 ) -> Status
     ensures not_text { IsErrOf words NoWords.NotText → result ≡ Status.Usage }
     ensures no_memory { IsErrOf words NoWords.NoMemory → result ≡ Status.NoMemory }
-    ensures words_told { IfErr words
-        (λ _. Tells (E.taken err.old) (E.faults err.old) (own_text result) (E.taken err.new)
+    ensures words_printed { IfErr words
+        (λ _. Prints (E.taken err.old) (E.faults err.old) (own_text result) (E.taken err.new)
         (E.faults err.new)) }
     ensures nothing_read { IfErr words (λ _. source.new ≡ source.old) }
     ensures nothing_written { IfErr words (λ _. out.new ≡ out.old) }
@@ -37,8 +37,8 @@ fn serve<A: Source, B: Sink, E: Sink>(
       read_faults = A.faults;
       taken = B.taken;
       write_faults = B.faults;
-      told = E.taken;
-      tell_faults = E.faults;
+      printed = E.taken;
+      print_faults = E.faults;
     }) (map string_bytes list.items) result source.old source.new out.old out.new err.old err.new) }
 {
     match words {

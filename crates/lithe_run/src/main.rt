@@ -6,7 +6,7 @@
 ghost use Rattle.std.specs.Prelude.{◌≡◌, map, string_bytes, IfOk, IfErr, IsErrOf};
 ghost use Rattle.lithe_call.specs.declared.status.Status.{Status};
 ghost use Rattle.lithe_call.specs.Status.{constant_text};
-ghost use Rattle.lithe_call.specs.Telling.{Tells};
+ghost use Rattle.lithe_call.specs.Printing.{Prints};
 ghost use Rattle.lithe_call.specs.Served.{AreServed};
 
 use lithe_call::{Status, lithe, no_form_for_words, no_memory_for_words};
@@ -29,8 +29,8 @@ fn serve<R: Threads + Wait + Sync, A: Source, B: Sink, E: Sink>(
 ) -> Status
     ensures not_text { IsErrOf words NoWords.NotText → result ≡ Status.Usage }
     ensures no_memory { IsErrOf words NoWords.NoMemory → result ≡ Status.NoMemory }
-    ensures words_told { IfErr words
-        (λ _. Tells (E.taken err.old) (E.faults err.old) (constant_text result) (E.taken err.new)
+    ensures words_printed { IfErr words
+        (λ _. Prints (E.taken err.old) (E.faults err.old) (constant_text result) (E.taken err.new)
         (E.faults err.new)) }
     ensures nothing_read { IfErr words (λ _. source.new ≡ source.old) }
     ensures nothing_written { IfErr words (λ _. out.new ≡ out.old) }
@@ -41,8 +41,8 @@ fn serve<R: Threads + Wait + Sync, A: Source, B: Sink, E: Sink>(
       read_faults = A.faults;
       taken = B.taken;
       write_faults = B.faults;
-      told = E.taken;
-      tell_faults = E.faults;
+      printed = E.taken;
+      print_faults = E.faults;
     }) (map string_bytes list.items) result source.old source.new out.old out.new err.old err.new) }
 {
     match words {

@@ -89,7 +89,7 @@ fn arrays_that_differ_are_illegal(rt: HostRuntime) -> Result<(), Fail> {
 }
 
 #[test]
-fn texts_that_are_no_output_are_told(rt: HostRuntime) -> Result<(), Fail> {
+fn texts_that_are_no_output_are_printed(rt: HostRuntime) -> Result<(), Fail> {
     audits(
         &rt,
         b"a = 1 2 0 0\ntransfers 1\n00 h0 register s1 under s0\n",
@@ -104,10 +104,10 @@ fn texts_that_are_no_output_are_told(rt: HostRuntime) -> Result<(), Fail> {
         b"",
         b"syntax: 2 transfers said, 1 found\n",
     )?;
-    let told = b"syntax: bad line 1 after %%\n";
-    audits(&rt, b"", Status::Syntax, b"", told)?;
-    let told = b"syntax: no line %%\n";
-    serve(&rt, AUDIT, BRANCHES, Status::Syntax, b"", told)
+    let printed = b"syntax: bad line 1 after %%\n";
+    audits(&rt, b"", Status::Syntax, b"", printed)?;
+    let printed = b"syntax: no line %%\n";
+    serve(&rt, AUDIT, BRANCHES, Status::Syntax, b"", printed)
 }
 
 // Two members add into one cell.
@@ -120,16 +120,23 @@ fn what_tally_takes_is_refused(rt: HostRuntime) -> Result<(), Fail> {
     let tally = &["tally", "--harts", "1"];
     serve(&rt, tally, ADDED, Status::Done, output, b"")?;
     let text = input(rt.alloc(), ADDED, output)?;
-    let told = b"refused: overlap on n_sum[0] at line 1\n";
-    serve(&rt, AUDIT, &text, Status::Refused, b"", told)
+    let printed = b"refused: overlap on n_sum[0] at line 1\n";
+    serve(&rt, AUDIT, &text, Status::Refused, b"", printed)
 }
 
 #[test]
 fn the_program_part_is_read_first(rt: HostRuntime) -> Result<(), Fail> {
-    let told = b"syntax: unexpected at byte 10\n";
-    serve(&rt, AUDIT, b"array a[4\n%%\n", Status::Syntax, b"", told)?;
-    let told = b"refused: unknown name at line 1\n";
-    serve(&rt, AUDIT, b"a[0] = 1;\n%%\n", Status::Refused, b"", told)
+    let printed = b"syntax: unexpected at byte 10\n";
+    serve(&rt, AUDIT, b"array a[4\n%%\n", Status::Syntax, b"", printed)?;
+    let printed = b"refused: unknown name at line 1\n";
+    serve(
+        &rt,
+        AUDIT,
+        b"a[0] = 1;\n%%\n",
+        Status::Refused,
+        b"",
+        printed,
+    )
 }
 
 // A program part of spaces, one longer than an audit's may be, and an output of no arrays and no transfers.

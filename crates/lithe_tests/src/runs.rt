@@ -100,9 +100,9 @@ fn values_wrap_and_dynamic_indices_too(rt: HostRuntime) -> Result<(), Fail> {
 
 #[test]
 fn static_indices_stay_inside_also_where_nothing_runs(rt: HostRuntime) -> Result<(), Fail> {
-    let told = b"refused: index 4 outside 4 cells at line 1\n";
-    refused(&rt, b"array a[4]; a[4] = 1;", told)?;
-    refused(&rt, b"array a[4]; if 0 { a[4] = 1; }", told)
+    let printed = b"refused: index 4 outside 4 cells at line 1\n";
+    refused(&rt, b"array a[4]; a[4] = 1;", printed)?;
+    refused(&rt, b"array a[4]; if 0 { a[4] = 1; }", printed)
 }
 
 #[test]
@@ -128,18 +128,18 @@ fn members_without_iterations_do_nothing(rt: HostRuntime) -> Result<(), Fail> {
 }
 
 #[test]
-fn faults_of_the_text_are_told_with_their_place(rt: HostRuntime) -> Result<(), Fail> {
-    let told = b"syntax: unexpected at byte 9\n";
-    serve(&rt, RUN, b"array a[4", Status::Syntax, b"", told)?;
-    let told = b"syntax: number too large at byte 8\n";
+fn faults_of_the_text_are_printed_with_their_place(rt: HostRuntime) -> Result<(), Fail> {
+    let printed = b"syntax: unexpected at byte 9\n";
+    serve(&rt, RUN, b"array a[4", Status::Syntax, b"", printed)?;
+    let printed = b"syntax: number too large at byte 8\n";
     let program = b"array a[9223372036854775808];";
-    serve(&rt, RUN, program, Status::Syntax, b"", told)?;
-    let told = b"syntax: byte 6 is not ASCII\n";
-    serve(&rt, RUN, b"array \xc3\xa9", Status::Syntax, b"", told)
+    serve(&rt, RUN, program, Status::Syntax, b"", printed)?;
+    let printed = b"syntax: byte 6 is not ASCII\n";
+    serve(&rt, RUN, b"array \xc3\xa9", Status::Syntax, b"", printed)
 }
 
 #[test]
-fn faults_of_the_program_are_told_with_their_line(rt: HostRuntime) -> Result<(), Fail> {
+fn faults_of_the_program_are_printed_with_their_line(rt: HostRuntime) -> Result<(), Fail> {
     refused(&rt, b"a[0] = 1;", b"refused: unknown name at line 1\n")?;
     let program = b"par { { par { { par { { par { { } } } } } } } }";
     refused(&rt, program, b"refused: 4 levels\n")

@@ -1,6 +1,6 @@
 //! Streams that fail, by themselves and under the top call.
 use crate::serving::{ROOM, RUN, SOLO, USAGE, serve_source, status_of, took};
-use lithe_call::{Status, no_form_for_words, no_memory_for_words, told_bytes_are_served};
+use lithe_call::{Status, no_form_for_words, no_memory_for_words, printed_bytes_are_served};
 use outside_io::{Fill, Put, Sink, Source, StdSink, StdSource, SureSink, SureSource};
 use std::alloc::Global;
 use std::io::{self, Error, ErrorKind, Read, Write};
@@ -154,9 +154,9 @@ fn is_write_fault<R: AllocGlobal + Threads + Wait + Sync>(
 ) -> Result<bool, Fail> {
     let mut err = SureSink::new(rt.alloc(), ROOM)?;
     let status = solo_into(rt, stream, &mut err)?;
-    let told = took(&err, b"write fault\n");
+    let printed = took(&err, b"write fault\n");
     let same = stream.taken.as_slice() == b"a = 0".as_slice();
-    Ok(status == Status::WriteFault && status.number() == 7 && told && same)
+    Ok(status == Status::WriteFault && status.number() == 7 && printed && same)
 }
 
 // The same for a stream that fails, or takes no more bytes, once its room is full.
@@ -174,7 +174,7 @@ fn an_output_that_breaks_off_is_a_write_fault(rt: HostRuntime) -> Result<(), Fai
 }
 
 // Serves a text that spells no program, and reports that to a stream.
-fn tell_fault<R: AllocGlobal + Threads + Wait + Sync>(
+fn print_fault<R: AllocGlobal + Threads + Wait + Sync>(
     rt: &R,
     stream: &mut Narrow,
 ) -> Result<Status, Fail> {
@@ -187,36 +187,36 @@ fn tell_fault<R: AllocGlobal + Threads + Wait + Sync>(
 #[test]
 fn an_error_stream_that_breaks_off_changes_no_status(rt: HostRuntime) -> Result<(), Fail> {
     let mut stream = stream_of(rt.alloc(), 6, true);
-    let status = tell_fault(&rt, &mut stream)?;
+    let status = print_fault(&rt, &mut stream)?;
     assert!(rt; status == Status::Syntax && stream.taken.as_slice() == b"syntax".as_slice());
     Ok(())
 }
 
 // Whether the allocation failure of the words is reported.
-fn tells_no_memory(err: &mut SureSink) -> bool {
+fn prints_no_memory(err: &mut SureSink) -> bool {
     let status = no_memory_for_words(err);
-    let told = took(err, b"no memory\n");
-    status == Status::NoMemory && status.number() == 8 && told
+    let printed = took(err, b"no memory\n");
+    status == Status::NoMemory && status.number() == 8 && printed
 }
 
 #[test]
-fn words_without_memory_are_told(rt: HostRuntime) -> Result<(), Fail> {
-    told_bytes_are_served();
+fn words_without_memory_are_printed(rt: HostRuntime) -> Result<(), Fail> {
+    printed_bytes_are_served();
     let mut err = SureSink::new(rt.alloc(), ROOM)?;
-    assert!(rt; tells_no_memory(&mut err));
+    assert!(rt; prints_no_memory(&mut err));
     Ok(())
 }
 
 // Whether the usage is reported for words that are no text.
-fn tells_no_form(err: &mut SureSink) -> bool {
+fn prints_no_form(err: &mut SureSink) -> bool {
     let status = no_form_for_words(err);
-    let told = took(err, USAGE);
-    status == Status::Usage && status.number() == 2 && told
+    let printed = took(err, USAGE);
+    status == Status::Usage && status.number() == 2 && printed
 }
 
 #[test]
-fn words_that_are_no_text_are_told(rt: HostRuntime) -> Result<(), Fail> {
+fn words_that_are_no_text_are_printed(rt: HostRuntime) -> Result<(), Fail> {
     let mut err = SureSink::new(rt.alloc(), ROOM)?;
-    assert!(rt; tells_no_form(&mut err));
+    assert!(rt; prints_no_form(&mut err));
     Ok(())
 }

@@ -9,9 +9,9 @@ use std::thread::Threads;
 
 // The line that reports an error.
 fn line_of(alloc: Global, fault: &str) -> Result<String, Fail> {
-    let mut told = String::new(alloc);
-    writeln!(told, "syntax: {fault}")?;
-    Ok(told)
+    let mut printed = String::new(alloc);
+    writeln!(printed, "syntax: {fault}")?;
+    Ok(printed)
 }
 
 // Serves a text, and compares the line after `syntax: `.
@@ -20,8 +20,8 @@ fn first_fault<R: AllocGlobal + Abort + Threads + Wait + Sync>(
     text: &[u8],
     fault: &str,
 ) -> Result<(), Fail> {
-    let told = line_of(rt.alloc(), fault)?;
-    serve(rt, RUN, text, Status::Syntax, b"", told.as_bytes())
+    let printed = line_of(rt.alloc(), fault)?;
+    serve(rt, RUN, text, Status::Syntax, b"", printed.as_bytes())
 }
 
 // The same for each text.

@@ -55,7 +55,7 @@ fn sixteen_harts_have_1394_sites(rt: HostRuntime) -> Result<(), Fail> {
 #[test]
 fn one_site_more_is_refused_to_sixteen_harts(rt: HostRuntime) -> Result<(), Fail> {
     let program = b"for k in 0..1395 { par { { } } }";
-    let told = b"refused: 1395 sites\n";
-    serve(&rt, SIXTEEN, program, Status::Refused, b"", told)?;
+    let printed = b"refused: 1395 sites\n";
+    serve(&rt, SIXTEEN, program, Status::Refused, b"", printed)?;
     serve(&rt, &["solo"], program, Status::Done, b"", b"")
 }

@@ -1,7 +1,7 @@
 //! Harts that move by ports on one ledger under a lock.
 ghost use Rattle.std.specs.Prelude.{◌≡◌, ◌≤◌, ◌<◌, [], ◌∷◌, All, IfOk, length, map, vec_len};
 ghost use Rattle.transfer_table.specs.Plan.{IsHart};
-ghost use Rattle.claim_words.specs.Seats.{AreAll, kin};
+ghost use Rattle.claim_words.specs.Seats.{AreAll, identity};
 ghost use Rattle.hart_loop.specs.Harts.{StartsIn};
 
 use array_eval::Overlay;
@@ -10,7 +10,7 @@ use array_tree::Program;
 use base_sched::{Base, SharedBase};
 use deque_rows::rows;
 use disjoint_check::{Accepted, check};
-use hart_loop::{Hart, HartSchedulers, HartSite, Members, work};
+use hart_loop::{Hart, HartSchedulers, HartSite, TeamMode, work};
 use hart_port::{Ledger, LockedPort};
 use hart_tools::{Claims, Tools, tools_of};
 use hart_work::{Schedulers, run_construct};
@@ -20,7 +20,7 @@ use once_cell::race::OnceBox;
 use sample_programs::{
     BOTH_BRANCHES, BOTH_PHASES, TWO_BRANCHES, TWO_PHASES, first_construct, parsed,
 };
-use site_directory::{SharedSite, SiteLine, cells, lines};
+use site_directory::{SharedSite, SiteCell, cells, lines};
 use site_steps::{SiteTree, WaitingPort};
 use std::alloc::Global;
 use std::sync::{Mutex, Wait};
@@ -46,7 +46,7 @@ fn hart<'x, 'p: 'x, R: Threads + Wait + Sync>(
     ensures { IfOk result (λ hart. StartsIn plan.now hart.port.port.view) }
 {
     let port = WaitingPort::new(LockedPort::new(alloc, lock, plan, number)?, rt);
-    let schedulers = HartSchedulers::new(lines(alloc, cells)?, tools, Members::Wait);
+    let schedulers = HartSchedulers::new(lines(alloc, cells)?, tools, TeamMode::Wait);
     Ok(Hart {
         port,
         schedulers,
@@ -142,7 +142,7 @@ fn all_tools<'x>(
 ) -> Result<Vec<Tools<'x>>, Fail>
     requires harts { (1 ≤ harts) × (harts ≤ 16) }
     requires count { vec_len claims ≡ harts }
-    requires all { AreAll words.now.table (map kin claims.items) }
+    requires all { AreAll words.now.table (map identity claims.items) }
 {
     Ok(tools_of(alloc, words, rows(alloc, harts)?, claims)?)
 }
@@ -229,7 +229,7 @@ fn two_tools<'x>(
     claims: Vec<ClaimSeat>,
 ) -> Result<(Tools<'x>, Tools<'x>), Fail>
     requires count { vec_len claims ≡ 2 }
-    requires all { AreAll words.now.table (map kin claims.items) }
+    requires all { AreAll words.now.table (map identity claims.items) }
 {
     let mut tools = all_tools(alloc, words, claims, 2)?;
     let first = next_tools(&mut tools)?;
@@ -285,7 +285,7 @@ fn run_first<'x, 'p: 'x, R: Threads + Wait + Sync>(
 {
     let nested = first_construct(alloc, program)?;
     let mut port = WaitingPort::new(LockedPort::new(alloc, lock, plan, 1)?, rt);
-    let mut schedulers = HartSchedulers::new(lines(alloc, cells)?, tools, Members::Wait);
+    let mut schedulers = HartSchedulers::new(lines(alloc, cells)?, tools, TeamMode::Wait);
     let mut around: HartSite<'x, 'p, SharedSite<'p>> = HartSite::base(base);
     Ok(run_construct(
         rt,
@@ -354,11 +354,11 @@ fn open_first<'x, 'p: 'x, R: Wait>(
     _rt: &'x R,
     alloc: Global,
     program: &'p Program,
-    lines: Vec<SiteLine<'x, SharedSite<'p>>>,
+    lines: Vec<SiteCell<'x, SharedSite<'p>>>,
     tools: Tools<'x>,
 ) -> Result<(), Fail> {
     let nested = first_construct(alloc, program)?;
-    let mut home = HartSchedulers::new(lines, tools, Members::Wait);
+    let mut home = HartSchedulers::new(lines, tools, TeamMode::Wait);
     let _opened = Schedulers::<R, JobMachines<'p>>::open(&mut home, alloc, &nested)?;
     Ok(())
 }
@@ -376,7 +376,7 @@ fn enters_second<'x, 'p: 'x, R: Threads + Wait + Sync>(
     requires cells { length cells.now ≡ 3 }
 {
     let mut port = WaitingPort::new(LockedPort::new(alloc, lock, plan, 1)?, rt);
-    let mut schedulers = HartSchedulers::new(lines(alloc, cells)?, tools, Members::Wait);
+    let mut schedulers = HartSchedulers::new(lines(alloc, cells)?, tools, TeamMode::Wait);
     match schedulers.find(rt, 2) {
         Some(mut found) => Ok(schedulers.enter(rt, &mut port, rt, &mut found, 2).is_some()),
         None => Err(Fail::new("nothing is found")),

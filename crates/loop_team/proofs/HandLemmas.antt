@@ -12,7 +12,7 @@ use Rattle.claim_words.specs.declared.sight.Look.{Look}
 use Rattle.claim_words.specs.declared.sight.LookKind.{LookKind}
 use Rattle.claim_words.specs.declared.sight.LookKind.TheVariants as kind
 use Rattle.claim_words.specs.Claims.{look}
-use Rattle.claim_words.specs.Seats.{kin, sight}
+use Rattle.claim_words.specs.Seats.{identity, sight}
 use Rattle.hart_port.specs.Count.{Rose}
 use Rattle.sched_api.specs.declared.scheduler.Next.{Next}
 use Rattle.sched_api.specs.declared.scheduler.Next.TheVariants.{Run, Lend, Nothing}
@@ -21,7 +21,7 @@ use Rattle.loop_team.specs.declared.hand.TeamHand.{TeamHand}
 use Rattle.loop_team.specs.declared.work.TeamWork.{TeamWork}
 use Rattle.loop_team.specs.declared.work.TeamWork.TheVariants.{Begin, Ready}
 use Rattle.loop_team.specs.Hands.{IsSameHand, HasFound, HasClaimed, NoneWasLeft, HasCause, Enters, HasLooked, HasTried, HasGoneOn, Turns}
-use Rattle.loop_team.specs.Looks.{TellsReady, TellsRest}
+use Rattle.loop_team.specs.Looks.{ReportsReady, ReportsRest}
 use Rattle.loop_team.specs.Rows.{RowsFit}
 use Rattle.loop_team.specs.Teams.{phases_in, members_in}
 
@@ -59,7 +59,7 @@ module _ {R : Type 0} where
     claims = looked.claims;
     row = looked.row;
     name = ap (λ (s : MutBor ClaimSeat). s.ghost_name) looked.seat;
-    kin = ap (λ (s : MutBor ClaimSeat). kin s.now) looked.seat;
+    identity = ap (λ (s : MutBor ClaimSeat). identity s.now) looked.seat;
   }
 
   looked_on : (before after : TeamHand R) → HasLooked before after → HasGoneOn before after
@@ -73,17 +73,17 @@ module _ {R : Type 0} where
   found_of : (before after : TeamHand R) (what : Found) → HasLooked before after → after.found ≡ what → HasFound before what after
   found_of before after what looked e = record { looked = looked.looked; last = e }
 
-  pub ready_turn : (before after : TeamHand R) (next : Option (Next TeamWork)) → HasLooked before after → TellsReady after.found next → Turns before next after
-  ready_turn before after None looked tells = looked_on before after looked
-  ready_turn before after (Some (Run (Begin job))) looked tells = record { same = looked_same before after looked; cause = inl (found_of before after _ looked tells) }
-  ready_turn before after (Some (Run (Ready context))) looked tells = record { same = looked_same before after looked; cause = found_of before after _ looked tells }
-  ready_turn before after (Some (Lend child)) looked tells = absurd tells
-  ready_turn before after (Some Nothing) looked tells = record { same = looked_same before after looked; cause = inl (found_of before after _ looked tells) }
+  pub ready_turn : (before after : TeamHand R) (next : Option (Next TeamWork)) → HasLooked before after → ReportsReady after.found next → Turns before next after
+  ready_turn before after None looked reports = looked_on before after looked
+  ready_turn before after (Some (Run (Begin job))) looked reports = record { same = looked_same before after looked; cause = inl (found_of before after _ looked reports) }
+  ready_turn before after (Some (Run (Ready context))) looked reports = record { same = looked_same before after looked; cause = found_of before after _ looked reports }
+  ready_turn before after (Some (Lend child)) looked reports = absurd reports
+  ready_turn before after (Some Nothing) looked reports = record { same = looked_same before after looked; cause = inl (found_of before after _ looked reports) }
 
   -- ---- a claim
 
   tried_same : (before after : TeamHand R) (phase : ℕ) (answer : Claimed) → HasTried before phase answer after → IsSameHand before after
-  tried_same before after phase answer tried = record { team = tried.team; claims = tried.claims; row = tried.row; name = tried.name; kin = tried.kin }
+  tried_same before after phase answer tried = record { team = tried.team; claims = tried.claims; row = tried.row; name = tried.name; identity = tried.identity }
 
   -- A member whose job is gone.
   pub empty_turn : (before after : TeamHand R) (phase m : ℕ) → HasTried before phase (Member m) after → HasGoneOn before after
@@ -134,7 +134,7 @@ module _ {R : Type 0} where
     claims = second.claims ∙ first.claims;
     row = second.row ∙ first.row;
     name = second.name ∙ first.name;
-    kin = second.kin ∙ first.kin;
+    identity = second.identity ∙ first.identity;
   }
 
   pub goes_on : (before mid after : TeamHand R) → HasGoneOn before mid → HasGoneOn mid after → HasGoneOn before after
@@ -161,12 +161,12 @@ module _ {R : Type 0} where
   found_after before mid after what same looked e = record { looked = subst (λ n. Rose n after.looks) same looked.looked; last = e }
 
   pub rest_turn : (before mid after : TeamHand R) (phase shown : ℕ) (next : Option (Next TeamWork)) → RowsFit before.claims.now.counts.items before.row before.shared.now →
-      phase < phases_in before.shared.now → HasTried before phase (NoneLeft shown) mid → HasLooked mid after → TellsRest after.found next → Turns before next after
-  rest_turn before mid after phase shown None fits there tried looked tells =
+      phase < phases_in before.shared.now → HasTried before phase (NoneLeft shown) mid → HasLooked mid after → ReportsRest after.found next → Turns before next after
+  rest_turn before mid after phase shown None fits there tried looked reports =
       goes_on before mid after (tried_on before mid phase shown tried) (looked_on mid after looked)
-  rest_turn before mid after phase shown (Some next) fits there tried looked tells = record {
+  rest_turn before mid after phase shown (Some next) fits there tried looked reports = record {
     same = same_after before mid after (tried_same before mid phase _ tried) (looked_same mid after looked);
-    cause = cause_of next tells;
+    cause = cause_of next reports;
   }
     where
       found : (what : Found) → after.found ≡ what → HasFound before what after
@@ -175,10 +175,10 @@ module _ {R : Type 0} where
       none : NoneWasLeft before after
       none = none_left before mid after phase shown fits there tried looked
 
-      cause_of : (next : Next TeamWork) → TellsRest after.found (Some next) → HasCause before next after
-      cause_of (Run (Begin job)) tells = inl (found _ tells)
-      cause_of (Run (Ready context)) tells = found _ tells
-      cause_of (Lend child) tells = (found _ tells, none)
+      cause_of : (next : Next TeamWork) → ReportsRest after.found (Some next) → HasCause before next after
+      cause_of (Run (Begin job)) reports = inl (found _ reports)
+      cause_of (Run (Ready context)) reports = found _ reports
+      cause_of (Lend child) reports = (found _ reports, none)
       cause_of Nothing (inl out) = inl (found _ out)
       cause_of Nothing (inr idle) = inr (found _ idle, none)
 
@@ -186,7 +186,7 @@ module _ {R : Type 0} where
 
   pub not_moved : (hand : TeamHand R) → HasGoneOn hand hand
   not_moved hand = record {
-    same = record { team = refl; claims = refl; row = refl; name = refl; kin = refl };
+    same = record { team = refl; claims = refl; row = refl; name = refl; identity = refl };
     read = ([], sym (append-nil _));
     claimed = ([], sym (append-nil _));
     looks = omega arith;

@@ -4,7 +4,7 @@ use Rattle.array_jobs.specs.Jobs.{JobParts}
 use Rattle.claim_words.specs.declared.sight.Look.{Look}
 use Rattle.claim_words.specs.declared.sight.LookKind.{LookKind}
 use Rattle.claim_words.specs.Claims.{look}
-use Rattle.claim_words.specs.Seats.{kin, sight, ClaimGives}
+use Rattle.claim_words.specs.Seats.{identity, sight, ClaimGives}
 use Rattle.claim_words.specs.declared.claimed.Claimed.{Claimed}
 use Rattle.hart_port.specs.Count.{Rose}
 use Rattle.sched_api.specs.declared.scheduler.Next.{Next}
@@ -22,7 +22,7 @@ pub record IsSameHand {R : Type 0} (before after : TeamHand R) : Type 0 where
   pub claims : after.claims ≡ before.claims
   pub row : after.row ≡ before.row
   pub name : after.seat.ghost_name ≡ before.seat.ghost_name
-  pub kin : kin after.seat.now ≡ kin before.seat.now
+  pub identity : identity after.seat.now ≡ identity before.seat.now
 
 -- The hand's last look had this result.
 pub record HasFound {R : Type 0} (before : TeamHand R) (what : Found)
@@ -86,7 +86,7 @@ pub record HasTried {R : Type 0} (before : TeamHand R) (phase : ℕ) (answer : C
   pub claims : after.claims ≡ before.claims
   pub row : after.row ≡ before.row
   pub name : after.seat.ghost_name ≡ before.seat.ghost_name
-  pub kin : kin after.seat.now ≡ kin before.seat.now
+  pub identity : identity after.seat.now ≡ identity before.seat.now
   pub looks : after.looks ≡ before.looks
   pub gives : ClaimGives before.claims.now.counts.items (before.row + phase) before.seat.now answer
       after.seat.now

@@ -7,15 +7,15 @@ use Rattle.loop_team.specs.declared.found.Found.TheVariants as found
 use Rattle.loop_team.specs.declared.work.TeamWork.{TeamWork}
 
 -- A look for a ready context found the cause of this result.
-abbrev pub TellsReady : Found → Option (Next TeamWork) → Type 0
-TellsReady what None = Unit {0}
-TellsReady what (Some (Run work)) = what ≡ found.Work
-TellsReady what (Some (Lend child)) = ⊥
-TellsReady what (Some Nothing) = what ≡ found.HandedOut
+abbrev pub ReportsReady : Found → Option (Next TeamWork) → Type 0
+ReportsReady what None = Unit {0}
+ReportsReady what (Some (Run work)) = what ≡ found.Work
+ReportsReady what (Some (Lend child)) = ⊥
+ReportsReady what (Some Nothing) = what ≡ found.HandedOut
 
 -- A look after the last member was claimed found the cause of this result.
-abbrev pub TellsRest : Found → Option (Next TeamWork) → Type 0
-TellsRest what None = Unit {0}
-TellsRest what (Some (Run work)) = what ≡ found.Work
-TellsRest what (Some (Lend child)) = what ≡ found.Wish
-TellsRest what (Some Nothing) = (what ≡ found.HandedOut) ⊎ (what ≡ found.Idle)
+abbrev pub ReportsRest : Found → Option (Next TeamWork) → Type 0
+ReportsRest what None = Unit {0}
+ReportsRest what (Some (Run work)) = what ≡ found.Work
+ReportsRest what (Some (Lend child)) = what ≡ found.Wish
+ReportsRest what (Some Nothing) = (what ≡ found.HandedOut) ⊎ (what ≡ found.Idle)

@@ -1,7 +1,7 @@
 //! A hart's hand on a team that harts share.
 ghost use Rattle.std.specs.Prelude.{◌≡◌, ◌<◌, IfSome, IfOk, IfErr};
 ghost use Rattle.lithe_barrier.specs.Arrivals.{GivesBack};
-ghost use Rattle.claim_words.specs.Seats.{IsOf, kin};
+ghost use Rattle.claim_words.specs.Seats.{IsOf, identity};
 ghost use Rattle.loop_team.specs.declared.found.Found.TheVariants.{Unlooked};
 ghost use Rattle.loop_team.specs.Rows.{RowsFit};
 
@@ -39,7 +39,7 @@ pub struct TeamHand<'a, 'r, 'p, R> {
     /// The result of the last of these looks.
     pub found: Found,
     pub of: PhantomData<R>,
-    pub ghost seated: { IsOf claims.now (kin seat.now) },
+    pub ghost seated: { IsOf claims.now (identity seat.now) },
     pub ghost fits: { RowsFit claims.now.counts.items row shared.now },
 }
 
@@ -68,7 +68,7 @@ impl<'a, 'r, 'p, R> TeamHand<'a, 'r, 'p, R> {
         seat: &'r mut ClaimSeat,
         row: u16,
     ) -> TeamHand<'a, 'r, 'p, R>
-        requires seat { IsOf claims.now (kin seat.old) }
+        requires seat { IsOf claims.now (identity seat.old) }
         requires rows { RowsFit claims.now.counts.items row shared.now }
         ensures team { result.shared.now ≡ shared.now }
         ensures rows { (result.claims.now ≡ claims.now) × (result.row ≡ row) }
@@ -90,7 +90,7 @@ impl<'a, 'r, 'p, R> TeamHand<'a, 'r, 'p, R> {
 
 impl<'a, 'r, 'p, R: Wait + 'a> TeamHand<'a, 'r, 'p, R> {
     ghost use Rattle.loop_team.specs.Hands.{HasLooked, HasTried, Turns};
-    ghost use Rattle.loop_team.specs.Looks.{TellsReady, TellsRest};
+    ghost use Rattle.loop_team.specs.Looks.{ReportsReady, ReportsRest};
     ghost use Rattle.loop_team.specs.Teams.{IsOver, phases_in};
 
     /// What `arrive` of the team does. If the team was handed out, each piece is a `Stranger`.
@@ -183,7 +183,7 @@ impl<'a, 'r, 'p, R: Wait + 'a> TeamHand<'a, 'r, 'p, R> {
     // Looks for a ready context under the lock. `None` if the hand has to look for more.
     fn look_ready(&mut self, rt: &R) -> Option<Next<TeamWork<'p>>>
         ensures looked { HasLooked self.old self.new }
-        ensures tells { TellsReady self.new.found result }
+        ensures reports { ReportsReady self.new.found result }
     {
         let (found, next) = self.shared.find_ready(rt);
         self.note(found);
@@ -200,7 +200,7 @@ impl<'a, 'r, 'p, R: Wait + 'a> TeamHand<'a, 'r, 'p, R> {
         snoozes: &mut u32,
     ) -> Option<Next<TeamWork<'p>>>
         ensures looked { HasLooked self.old self.new }
-        ensures tells { TellsRest self.new.found result }
+        ensures reports { ReportsRest self.new.found result }
     {
         let (found, next) = self.shared.find_rest(rt, phase);
         self.note(found);

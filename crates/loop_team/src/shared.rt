@@ -1,7 +1,7 @@
 //! Teams that harts share.
 ghost use Rattle.std.specs.Prelude.{◌≡◌, ◌<◌, IfOk, IfErr, IfSome, Some};
 ghost use Rattle.lithe_barrier.specs.Arrivals.{GivesBack};
-ghost use Rattle.loop_team.specs.Looks.{TellsReady, TellsRest};
+ghost use Rattle.loop_team.specs.Looks.{ReportsReady, ReportsRest};
 ghost use Rattle.loop_team.specs.Teams.{phases_in};
 
 use crate::found::Found;
@@ -298,7 +298,7 @@ impl<'p> SharedTeam<'p> {
 
     // Looks for a ready context under the lock.
     pub(crate) fn find_ready<R: Wait>(&self, rt: &R) -> (Found, Option<Next<TeamWork<'p>>>)
-        ensures { TellsReady result.0 result.1 }
+        ensures { ReportsReady result.0 result.1 }
     {
         match self.lock.lock(rt).as_mut() {
             Some(team) => {
@@ -319,7 +319,7 @@ impl<'p> SharedTeam<'p> {
         rt: &R,
         phase: u8,
     ) -> (Found, Option<Next<TeamWork<'p>>>)
-        ensures { TellsRest result.0 result.1 }
+        ensures { ReportsRest result.0 result.1 }
     {
         match self.lock.lock(rt).as_mut() {
             Some(team) if self.phase() == Some(phase) => {
@@ -423,7 +423,7 @@ fn members_of<'p>(
 
 // The result of a look at a team that isn't handed out and returns this action.
 fn found_by(next: &Next<TeamWork>) -> Found
-    ensures { TellsRest result (Some next.now) }
+    ensures { ReportsRest result (Some next.now) }
 {
     match next {
         Next::Run(_) => Found::Work,

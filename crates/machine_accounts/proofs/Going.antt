@@ -22,9 +22,9 @@ use Rattle.site_parts.specs.Parts.{AreParts}
 use Rattle.site_parts.proofs.Parts.{works_stay_parts, whole_works_are_passed, passes_are_spans, constructs_are_parts}
 use Rattle.site_passes.specs.Entering.{work_entered, rest_entered}
 use Rattle.site_passes.proofs.Counts.{work_length}
-use Rattle.piece_accounts.specs.Piece.{IsAhead, IsAccounted, SkipsAsTold}
+use Rattle.piece_accounts.specs.Piece.{IsAhead, IsAccounted, SkipsAsReported}
 use Rattle.piece_accounts.proofs.Ahead.{next_constructs_are_fresh}
-use Rattle.piece_accounts.proofs.Told.{next_passes_are_fresh}
+use Rattle.piece_accounts.proofs.Reported.{next_passes_are_fresh}
 use Rattle.piece_accounts.proofs.Accounts.{accounts_begin, accounts_step, accounts_pass_constructs, accounts_end}
 use Rattle.machine_accounts.specs.Machines.{IsFreshConstruct, IsRunNested, IsGoing, MachinesBegin, MachinesRunOn, MachinesWait, MachinesPass, MachinesGoOn, MachinesFinish}
 
@@ -58,7 +58,7 @@ moved_on p around start es' job w more store next stage m' parts went account =
 
 -- A step that hands out no construct.
 step_on : (p : Plan) (around : ℕ) (start es es' : List Entry) (job : JobParts) (works : List WorkAt) (store : Trace) (next : ℕ) (stage : Stage) (m' : Progress) →
-    next_construct works ≡ None → SkipsAsTold p es es' (pass_of (arrays_of (declarations_of job.arrays)) store.cells next works) → HasMoved works (standing job works store next stage) m' →
+    next_construct works ≡ None → SkipsAsReported p es es' (pass_of (arrays_of (declarations_of job.arrays)) store.cells next works) → HasMoved works (standing job works store next stage) m' →
     IsGoing p around start es (standing job works store next stage) → IsGoing p around start es' m'
 step_on p around start es es' job [] store next stage m' none skips went going = absurd went
 step_on p around start es es' job (w ∷ more) store next stage m' none skips went going =
@@ -116,7 +116,7 @@ none_next m (w ∷ more) e = of (construct_of w.work) e
 pub machines_run_on : MachinesRunOn
 machines_run_on p around start es m m' stands going = going
 machines_run_on p around start es m m' (moves mid last ran stage nest pass went) going =
-    step_on p around start es es mid.job mid.rest mid.store mid.next mid.stage last (none_next mid mid.rest nest) (subst (SkipsAsTold p es es) (sym pass) refl) went
+    step_on p around start es es mid.job mid.rest mid.store mid.next mid.stage last (none_next mid mid.rest nest) (subst (SkipsAsReported p es es) (sym pass) refl) went
     (machines_run_on p around start es m mid ran going)
 machines_run_on p around start es m m' (skims mid last ran stage whole) going =
     skim_on p around start es mid.job mid.rest mid.store mid.next mid.stage last whole (machines_run_on p around start es m mid ran going)
@@ -138,12 +138,12 @@ none_passing arrays store next [] span e = refl
 none_passing arrays store next (w ∷ more) span e = work_passing arrays store next w.work w.vars span e
 
 pub machines_pass : MachinesPass
-machines_pass p around start es first end m m' going told went =
+machines_pass p around start es first end m m' going reported went =
     let arrays = arrays_of (declarations_of m.job.arrays) in (
-      passes_are_spans p around m.next arrays m.store.cells m.rest (first, end) told going.parts,
-      next_passes_are_fresh p es arrays m.store.cells m.next m.rest (first, end) told going.account.ahead,
+      passes_are_spans p around m.next arrays m.store.cells m.rest (first, end) reported going.parts,
+      next_passes_are_fresh p es arrays m.store.cells m.next m.rest (first, end) reported going.account.ahead,
       λ es' skipped.
-          step_on p around start es es' m.job m.rest m.store m.next m.stage m' (none_passing arrays m.store.cells m.next m.rest (first, end) told) (subst (SkipsAsTold p es es') (sym told) skipped) went going,
+          step_on p around start es es' m.job m.rest m.store m.next m.stage m' (none_passing arrays m.store.cells m.next m.rest (first, end) reported) (subst (SkipsAsReported p es es') (sym reported) skipped) went going,
     )
 
 -- ---- constructs

@@ -9,7 +9,7 @@ use Rattle.array_meaning.specs.Entered.{entered_of}
 use Rattle.array_meaning.proofs.EnteredLemmas as entered
 use Rattle.array_meaning.proofs.PlanLemmas as plans
 use Rattle.array_meaning.proofs.NestingLemmas.{stay_inside_parts}
-use Rattle.meant_sites.specs.Meant.{HasPartFrom, PartsAreSpans, ProgramsAreParts, EnteredIsComplete, EverySiteIsTold}
+use Rattle.meant_sites.specs.Meant.{HasPartFrom, PartsAreSpans, ProgramsAreParts, EnteredIsComplete, EverySiteHasAFlag}
 
 -- an index behind a list
 at_right : (xs ys : List ℕ) (i : ℕ) → slice_index (xs ++ ys) (length xs + i) ≡ slice_index ys i
@@ -70,10 +70,10 @@ programs_are_parts program p is = record {
   behind = tt;
 }
 
-pub every_site_is_told : EverySiteIsTold
-every_site_is_told program p is =
+pub every_site_has_a_flag : EverySiteHasAFlag
+every_site_has_a_flag program p is =
     let arrays = arrays_of program.arrays in
     entered.sequence_length arrays program.body [] (first_store arrays) ∙ sym (plans.sequence_length program.body 0 1) ∙ sym (ap length is)
 
 pub entered_is_complete : EnteredIsComplete
-entered_is_complete program p es t is plan leads over = all_over_is_complete p (entered_of program) es t plan leads (every_site_is_told program p is) over
+entered_is_complete program p es t is plan leads over = all_over_is_complete p (entered_of program) es t plan leads (every_site_has_a_flag program p is) over

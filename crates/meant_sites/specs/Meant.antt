@@ -38,8 +38,8 @@ EnteredIsComplete = (program : ProgramTree) (p : Plan) (es : List Entry) (t : Ta
     → IsComplete p (entered_of program) es
 
 -- There is a flag for each site of a program's plan, whether the meaning enters the site.
-abbrev pub EverySiteIsTold : Type 0
-EverySiteIsTold = (program : ProgramTree) (p : Plan) → p.parents ≡ plan_of program
+abbrev pub EverySiteHasAFlag : Type 0
+EverySiteHasAFlag = (program : ProgramTree) (p : Plan) → p.parents ≡ plan_of program
     → length (entered_of program) ≡ site_count p
 
 -- A program without a construct under an `if` enters every site of its plan.

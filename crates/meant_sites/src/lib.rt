@@ -6,7 +6,7 @@
 //! programs enter.
 #![tactic(auto)]
 
-ghost use Rattle.meant_sites.specs.Meant.{PartsAreSpans, ProgramsAreParts, EnteredIsComplete, EverySiteIsTold, AllSitesAreEntered};
+ghost use Rattle.meant_sites.specs.Meant.{PartsAreSpans, ProgramsAreParts, EnteredIsComplete, EverySiteHasAFlag, AllSitesAreEntered};
 
 /// The sites of a part are whole subtrees inside the site around it.
 pub fn parts_are_spans()
@@ -24,8 +24,8 @@ pub fn entered_is_complete()
 {}
 
 /// There is a flag for each site of a program's plan, whether the meaning enters the site.
-pub fn every_site_is_told()
-    ensures { EverySiteIsTold }
+pub fn every_site_has_a_flag()
+    ensures { EverySiteHasAFlag }
 {}
 
 /// A program without a construct under an `if` enters every site of its plan.

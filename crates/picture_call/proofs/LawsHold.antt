@@ -6,7 +6,7 @@ use Rattle.array_tree.specs.Trees.{ProgramTree}
 use Rattle.array_meaning.specs.Entered.{entered_of}
 use Rattle.array_meaning.specs.Plans.{plan_of, sites_in}
 use Rattle.array_meaning.specs.Work.{final_store}
-use Rattle.meant_sites.proofs.Parts.{every_site_is_told}
+use Rattle.meant_sites.proofs.Parts.{every_site_has_a_flag}
 use Rattle.disjoint_check.specs.LimitFault.{room_for}
 use Rattle.disjoint_check.proofs.PlanLaws.{plan_right}
 use Rattle.run_audit.proofs.Found.{legal_outputs}
@@ -51,7 +51,7 @@ no_text harts line first second (inl nothing) = inl nothing
 no_text harts line first second (inr other) = inr (record {
   program = other.program;
   input = record { short = other.input.short; spelled = other.input.spelled; run = other.input.accepted };
-  is = record { fault = other.fault; found = other.found; real = other.real; told = other.told };
+  is = record { fault = other.fault; found = other.found; real = other.real; printed = other.printed };
 })
 
 no_text_back : (harts : ℕ) (line first second : List ℕ) → AreNoText Run harts line first second → lithe.AreNoText harts line first second
@@ -62,7 +62,7 @@ no_text_back harts line first second (inr other) = inr (record {
   fault = other.is.fault;
   found = other.is.found;
   real = other.is.real;
-  told = other.is.told;
+  printed = other.is.printed;
 })
 
 pub runs_fail : RunsFailAsAudits
@@ -93,7 +93,7 @@ legal : (runner : Runner) (harts : ℕ) (first second : List ℕ) (program : Pro
     → (entries : ℕ) × AreJudged runner harts (Legal entries) first second
 legal runner harts first second program some most input output =
     let plan = table_plan program harts in
-    let both = legal_outputs plan (run_plan runner harts program some most input.run) (entered_of program) (every_site_is_told program plan refl) program (final_store program) second (length output.journal) in (
+    let both = legal_outputs plan (run_plan runner harts program some most input.run) (entered_of program) (every_site_has_a_flag program plan refl) program (final_store program) second (length output.journal) in (
       length output.journal,
       record {
         program = program;

@@ -1,5 +1,5 @@
 pub mod Cutting
-pub mod Asked
+pub mod Parsed
 pub mod Found
 pub mod Refusing
 pub mod Showing

@@ -18,12 +18,12 @@ use Rattle.run_audit.specs.Audit.{audit_of}
 use Rattle.journal_picture.specs.declared.shape.Kind.{Kind}
 use Rattle.run_picture.specs.Picture.{Pictured, picture_of}
 use Rattle.run_picture.specs.declared.picture.Form.{Form}
-use Rattle.lithe_call.specs.Faults.{IsNoRun, TellsUntallied, TellsUnpiped}
-use Rattle.lithe_call.specs.Lines.{TellsRefusal, TellsText}
+use Rattle.lithe_call.specs.Faults.{IsNoRun, PrintsUntallied, PrintsUnpiped}
+use Rattle.lithe_call.specs.Lines.{PrintsRefusal, PrintsText}
 use Rattle.lithe_call.specs.Programs.{table_plan}
 use Rattle.lithe_call.specs.declared.fault.Fault.{Fault}
 use Rattle.lithe_call.specs.declared.fault.Fault.TheVariants as fault
-use Rattle.lithe_call.proofs.Runs.{told_plan}
+use Rattle.lithe_call.proofs.Runs.{printed_plan}
 use Rattle.lithe_call.proofs.Tallying.{untallied_line}
 use Rattle.lithe_call.proofs.Piping.{unpiped_line}
 use Rattle.picture_call.specs.declared.runner.Runner.{Runner}
@@ -61,7 +61,7 @@ program_no_picture Pipe harts first second program (fault.Refused line) short sp
 program_no_picture runner harts first second program fault.Memory short spelled reported = tt
 
 -- the check refuses the program to `run`
-pub check_no_picture : (harts : ℕ) (program : ProgramTree) (output : List ℕ) (cause : CheckFault) (why : Fault) → TellsRefusal program cause why
+pub check_no_picture : (harts : ℕ) (program : ProgramTree) (output : List ℕ) (cause : CheckFault) (why : Fault) → PrintsRefusal program cause why
     → (cause ≡ check.Memory) ⊎ (check_fault_of program harts ≡ Some cause) → ReportsNoPicture Run harts program output why
 check_no_picture harts program output cause fault.Usage reported first = absurd reported
 check_no_picture harts program output cause fault.TooLong reported first = absurd reported
@@ -69,12 +69,12 @@ check_no_picture harts program output cause fault.ReadFault reported first = abs
 check_no_picture harts program output cause (fault.Syntax line) reported first = absurd reported
 check_no_picture harts program output cause (fault.Refused line) reported first = elim first [
   | inl memory ↦ absurd (reported.0 memory)
-  | inr is ↦ record { fault = cause; is = is; real = reported.0; told = reported.1 }
+  | inr is ↦ record { fault = cause; is = is; real = reported.0; printed = reported.1 }
 ]
 check_no_picture harts program output cause fault.Memory reported first = tt
 
 -- it is refused to `tally`, or to `pipe`
-pub tally_no_picture : (harts : ℕ) (program : ProgramTree) (output : List ℕ) (why : Fault) → TellsUntallied harts program why → ReportsNoPicture Tally harts program output why
+pub tally_no_picture : (harts : ℕ) (program : ProgramTree) (output : List ℕ) (why : Fault) → PrintsUntallied harts program why → ReportsNoPicture Tally harts program output why
 tally_no_picture harts program output fault.Usage reported = absurd reported
 tally_no_picture harts program output fault.TooLong reported = absurd reported
 tally_no_picture harts program output fault.ReadFault reported = absurd reported
@@ -82,7 +82,7 @@ tally_no_picture harts program output (fault.Syntax line) reported = absurd repo
 tally_no_picture harts program output (fault.Refused line) reported = reported
 tally_no_picture harts program output fault.Memory reported = tt
 
-pub pipe_no_picture : (harts : ℕ) (program : ProgramTree) (output : List ℕ) (why : Fault) → TellsUnpiped harts program why → ReportsNoPicture Pipe harts program output why
+pub pipe_no_picture : (harts : ℕ) (program : ProgramTree) (output : List ℕ) (why : Fault) → PrintsUnpiped harts program why → ReportsNoPicture Pipe harts program output why
 pipe_no_picture harts program output fault.Usage reported = absurd reported
 pipe_no_picture harts program output fault.TooLong reported = absurd reported
 pipe_no_picture harts program output fault.ReadFault reported = absurd reported
@@ -102,7 +102,7 @@ output_no_picture runner harts program output fault.Memory run reported = tt
 
 pub right_plan : (plan own : Plan) (program : ProgramTree) (harts : ℕ) → plan ≡ own → own.parents ≡ plan_of program → own.harts ≡ harts → plan ≡ table_plan program harts
 right_plan plan own program harts same parents count =
-    same ∙ told_plan own program parents ∙ ap (table_plan program) count
+    same ∙ printed_plan own program parents ∙ ap (table_plan program) count
 
 pub plan_no_picture : {X : Type 0} (result : Result X Fault) (runner : Runner) (harts : ℕ) (program : ProgramTree) (plan : Plan) (output : List ℕ) → plan ≡ table_plan program harts
     → IsRunBy runner harts program → IfErr result (ReportsNoOutput plan program output) → IfErr result (ReportsNoPicture runner harts program output)
@@ -120,12 +120,12 @@ plan_runs (Ok x) runner harts program is = is
 plan_runs (Err why) runner harts program is = tt
 
 -- a fault of the output's text
-pub text_no_output : (plan : Plan) (program : ProgramTree) (output : List ℕ) (cause : TextFault) (why : Fault) → TellsText cause why
+pub text_no_output : (plan : Plan) (program : ProgramTree) (output : List ℕ) (cause : TextFault) (why : Fault) → PrintsText cause why
     → ((cause ≡ text.Memory → ⊥) → audit_of plan (entered_of program) (array_text program (final_store program)) output ≡ Err cause) → ReportsNoOutput plan program output why
 text_no_output plan program output cause fault.Usage reported found = absurd reported
 text_no_output plan program output cause fault.TooLong reported found = absurd reported
 text_no_output plan program output cause fault.ReadFault reported found = absurd reported
-text_no_output plan program output cause (fault.Syntax line) reported found = record { fault = cause; found = found reported.0; real = reported.0; told = reported.1 }
+text_no_output plan program output cause (fault.Syntax line) reported found = record { fault = cause; found = found reported.0; real = reported.0; printed = reported.1 }
 text_no_output plan program output cause (fault.Refused line) reported found = absurd reported
 text_no_output plan program output cause fault.Memory reported found = tt
 

@@ -14,15 +14,15 @@ use Rattle.run_audit.specs.Parts.{most_audited}
 use Rattle.run_audit.specs.AuditText.{text_fault_text}
 use Rattle.run_audit.specs.Audit.{audit_of}
 use Rattle.lithe_call.specs.Auditing.{HasParts}
-use Rattle.lithe_call.specs.Faults.{SpellNothing, HasNoMark, IsRefused, IsToldFault, IsUntallied, IsUnpiped}
+use Rattle.lithe_call.specs.Faults.{SpellNothing, HasNoMark, IsRefused, IsPrintedFault, IsUntallied, IsUnpiped}
 use Rattle.lithe_call.specs.Programs.{table_plan}
-use Rattle.lithe_call.specs.Telling.{GivesWithin, GivesMore}
+use Rattle.lithe_call.specs.Printing.{GivesWithin, GivesMore}
 use Rattle.lithe_call.specs.declared.fault.Fault.{Fault}
 use Rattle.lithe_call.specs.declared.fault.Fault.TheVariants as fault
 use Rattle.picture_call.specs.declared.runner.Runner.{Runner}
 use Rattle.picture_call.specs.declared.runner.Runner.TheVariants.{Run, Tally, Pipe}
 use Rattle.picture_call.specs.Pictures.{IsRunBy, SpellRun, command_of}
-use Rattle.picture_call.specs.Words.{run_asked}
+use Rattle.picture_call.specs.Words.{parsed_run}
 
 -- The bytes are no output's text for the program with this plan; the line reports their first fault, which isn't an allocation
 -- failure.
@@ -30,11 +30,11 @@ pub record IsNoOutput (plan : Plan) (program : ProgramTree) (output line : List 
   pub fault : TextFault
   pub found : audit_of plan (entered_of program) (array_text program (final_store program)) output ≡ Err fault
   pub real : fault ≢ text.Memory
-  pub told : line ≡ text_fault_text fault
+  pub printed : line ≡ text_fault_text fault
 
 -- The command refuses the program, and the line is the one that it writes.
 abbrev pub IsRefusedBy : Runner → ℕ → ProgramTree → List ℕ → Type 0
-IsRefusedBy Run harts program line = IsToldFault (check_fault_of program harts) program line
+IsRefusedBy Run harts program line = IsPrintedFault (check_fault_of program harts) program line
 IsRefusedBy Tally harts program line = IsUntallied harts program line
 IsRefusedBy Pipe harts program line = IsUnpiped harts program line
 
@@ -95,17 +95,17 @@ HasNoPicture runner harts bytes (fault.Refused line) = HasRefused runner harts b
 HasNoPicture runner harts bytes fault.Memory = Unit {0}
 
 -- The words request no picture, or an allocation failed while they were read.
-abbrev pub IsUnasked : List (List ℕ) → Fault → Type 0
-IsUnasked words fault.Usage = run_asked words ≡ None
-IsUnasked words fault.Memory = Unit {0}
-IsUnasked words why = ⊥
+abbrev pub IsUnparsed : List (List ℕ) → Fault → Type 0
+IsUnparsed words fault.Usage = parsed_run words ≡ None
+IsUnparsed words fault.Memory = Unit {0}
+IsUnparsed words why = ⊥
 
 -- The line reports why the bytes that the source gave to its end aren't what the words' command takes, or why it refuses them.
 pub record IsReportedBy (IsSo : Runner → ℕ → List ℕ → List ℕ → Type 0) (words : List (List ℕ))
     (left left' : Option (List ℕ)) (line : List ℕ) : Type 0 where
   pub runner : Runner
   pub harts : ℕ
-  pub asked : run_asked words ≡ Some (runner, harts)
+  pub parsed : parsed_run words ≡ Some (runner, harts)
   pub bytes : List ℕ
   pub given : GivesWithin most_audited left bytes left'
   pub is : IsSo runner harts bytes line
@@ -114,7 +114,7 @@ pub record IsReportedBy (IsSo : Runner → ℕ → List ℕ → List ℕ → Typ
 pub record GivesLong (words : List (List ℕ)) (left left' : Option (List ℕ)) : Type 0 where
   pub runner : Runner
   pub harts : ℕ
-  pub asked : run_asked words ≡ Some (runner, harts)
+  pub parsed : parsed_run words ≡ Some (runner, harts)
   pub longer : GivesMore left most_audited left'
       ⊎ ((bytes : List ℕ) × GivesWithin most_audited left bytes left' × IsLong bytes)
 
@@ -122,13 +122,13 @@ pub record GivesLong (words : List (List ℕ)) (left left' : Option (List ℕ)) 
 pub record FailsFor (words : List (List ℕ)) (faults faults' : ℕ) : Type 0 where
   pub runner : Runner
   pub harts : ℕ
-  pub asked : run_asked words ≡ Some (runner, harts)
+  pub parsed : parsed_run words ≡ Some (runner, harts)
   pub rose : Rose faults faults'
 
 -- The cause of a fault, by what the source had left before and has left after, and by its count of faults before and after.
 -- An allocation failure has none.
 abbrev pub IsFault : List (List ℕ) → Fault → Option (List ℕ) → Option (List ℕ) → ℕ → ℕ → Type 0
-IsFault words fault.Usage left left' faults faults' = run_asked words ≡ None
+IsFault words fault.Usage left left' faults faults' = parsed_run words ≡ None
 IsFault words fault.TooLong left left' faults faults' = GivesLong words left left'
 IsFault words fault.ReadFault left left' faults faults' = FailsFor words faults faults'
 IsFault words (fault.Syntax line) left left' faults faults' = IsReportedBy HasNoText words left left' line.items

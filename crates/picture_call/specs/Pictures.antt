@@ -17,10 +17,10 @@ use Rattle.lithe_call.specs.Auditing.{HasParts, found_in, status_by}
 use Rattle.lithe_call.specs.Programs.{table_plan}
 use Rattle.lithe_call.specs.Tallies.{IsTallied}
 use Rattle.lithe_call.specs.Pipelines.{IsPiped}
-use Rattle.lithe_call.specs.Telling.{GivesWithin}
+use Rattle.lithe_call.specs.Printing.{GivesWithin}
 use Rattle.picture_call.specs.declared.runner.Runner.{Runner}
 use Rattle.picture_call.specs.declared.runner.Runner.TheVariants.{Run, Tally, Pipe}
-use Rattle.picture_call.specs.Words.{form_asked, run_asked}
+use Rattle.picture_call.specs.Words.{parsed_form, parsed_run}
 
 -- The command that ran the program, on so many harts.
 abbrev pub command_of : Runner → ℕ → Command
@@ -77,13 +77,13 @@ HasPicture form runner harts bytes picture = HasParts (AreDrawn form runner hart
 pub record IsPictureFor (words : List (List ℕ)) (left left' : Option (List ℕ)) (status : Status)
     (text : List ℕ) : Type 0 where
   pub form : Form
-  pub named : form_asked words ≡ Some form
+  pub named : parsed_form words ≡ Some form
   pub runner : Runner
   pub harts : ℕ
-  pub asked : run_asked words ≡ Some (runner, harts)
+  pub parsed : parsed_run words ≡ Some (runner, harts)
   pub bytes : List ℕ
   pub given : GivesWithin most_audited left bytes left'
   pub picture : Pictured
   pub has : HasPicture form runner harts bytes picture
   pub same : status ≡ status_by picture.verdict
-  pub told : text ≡ picture.text
+  pub printed : text ≡ picture.text

@@ -4,12 +4,12 @@ use Rattle.outside_io.specs.Outside.{Rose, Appends}
 use Rattle.lithe_call.specs.declared.status.Status.{Status}
 use Rattle.lithe_call.specs.declared.status.Status.TheVariants.{Done, Illegal, Usage, Syntax, Refused, TooLong, ReadFault, WriteFault, NoMemory}
 use Rattle.lithe_call.specs.Served.{Outside}
-use Rattle.lithe_call.specs.Telling.{AppendsPrefix, Tells}
+use Rattle.lithe_call.specs.Printing.{AppendsPrefix, Prints}
 use Rattle.picture_call.specs.declared.runner.Runner.{Runner}
 use Rattle.picture_call.specs.Causes.{GivesLong, HasNoText, HasRefused, IsReportedBy}
 use Rattle.picture_call.specs.Pictures.{EndsAs, IsPictureFor}
 use Rattle.picture_call.specs.Texts.{own_text}
-use Rattle.picture_call.specs.Words.{run_asked}
+use Rattle.picture_call.specs.Words.{parsed_run}
 
 -- The sink took the picture.
 pub record WritesPicture (words : List (List ℕ)) (left left' : Option (List ℕ)) (status : Status)
@@ -27,18 +27,18 @@ pub record WritesPart (words : List (List ℕ))
   pub written : AppendsPrefix taken text taken'
 
 -- The text is the status's, for what the source gave.
-abbrev pub IsToldFor : List (List ℕ) → Status → Option (List ℕ) → Option (List ℕ) → List ℕ → Type 0
-IsToldFor words Syntax left left' text = IsReportedBy HasNoText words left left' text
-IsToldFor words Refused left left' text = IsReportedBy HasRefused words left left' text
-IsToldFor words status left left' text = text ≡ own_text status
+abbrev pub IsPrintedFor : List (List ℕ) → Status → Option (List ℕ) → Option (List ℕ) → List ℕ → Type 0
+IsPrintedFor words Syntax left left' text = IsReportedBy HasNoText words left left' text
+IsPrintedFor words Refused left left' text = IsReportedBy HasRefused words left left' text
+IsPrintedFor words status left left' text = text ≡ own_text status
 
 -- The status's text was written to the sink, with its count of faults before and after.
-pub record TellsWhy (words : List (List ℕ)) (status : Status)
+pub record PrintsWhy (words : List (List ℕ)) (status : Status)
     (left left' taken : Option (List ℕ)) (faults : ℕ) (taken' : Option (List ℕ))
     (faults' : ℕ) : Type 0 where
   pub text : List ℕ
-  pub right : IsToldFor words status left left' text
-  pub tells : Tells taken faults text taken' faults'
+  pub right : IsPrintedFor words status left left' text
+  pub prints : Prints taken faults text taken' faults'
 
 -- The words were served, with this status: what the source, the sink and the sink for errors were before and are after.
 pub record AreShown {A B E : Type 0} (see : Outside A B E) (words : List (List ℕ)) (status : Status) (source source' : A)
@@ -50,7 +50,7 @@ pub record AreShown {A B E : Type 0} (see : Outside A B E) (words : List (List �
   pub illegal : status ≡ Illegal
       → WritesPicture words (see.left source) (see.left source') Illegal (see.taken out) (see.taken out')
   -- What has a verdict ends with the status of that verdict, unless an allocation or the outside fails.
-  pub complete : (runner : Runner) (harts : ℕ) → run_asked words ≡ Some (runner, harts)
+  pub complete : (runner : Runner) (harts : ℕ) → parsed_run words ≡ Some (runner, harts)
       → (bytes : List ℕ) → see.left source ≡ Some bytes
       → (ended : Status) → EndsAs runner harts bytes ended
       → (Rose (see.read_faults source) (see.read_faults source') → ⊥)
@@ -58,17 +58,17 @@ pub record AreShown {A B E : Type 0} (see : Outside A B E) (words : List (List �
       → (status ≡ ended) ⊎ (status ≡ NoMemory)
   -- When each other status comes. The texts of Syntax and Refused have their causes. Words that are no form are Usage,
   -- unless an allocation fails while they are read.
-  pub usage : status ≡ Usage → run_asked words ≡ None
-  pub no_form : run_asked words ≡ None → (status ≡ Usage) ⊎ (status ≡ NoMemory)
+  pub usage : status ≡ Usage → parsed_run words ≡ None
+  pub no_form : parsed_run words ≡ None → (status ≡ Usage) ⊎ (status ≡ NoMemory)
   pub too_long : status ≡ TooLong → GivesLong words (see.left source) (see.left source')
   pub read_fault : status ≡ ReadFault → Rose (see.read_faults source) (see.read_faults source')
   pub write_fault : status ≡ WriteFault → Rose (see.write_faults out) (see.write_faults out')
   pub lines : status ≢ Done → status ≢ Illegal
-      → TellsWhy words status (see.left source) (see.left source') (see.told err) (see.tell_faults err)
-      (see.told err') (see.tell_faults err')
+      → PrintsWhy words status (see.left source) (see.left source') (see.printed err) (see.print_faults err)
+      (see.printed err') (see.print_faults err')
   -- What the source gave and what the sinks took otherwise.
   pub prefix : status ≡ WriteFault
       → WritesPart words (see.left source) (see.left source') (see.taken out) (see.taken out')
-  pub source_stays : run_asked words ≡ None → source' ≡ source
+  pub source_stays : parsed_run words ≡ None → source' ≡ source
   pub out_stays : status ≢ Done → status ≢ Illegal → status ≢ WriteFault → out' ≡ out
   pub err_stays : (status ≡ Done) ⊎ (status ≡ Illegal) → err' ≡ err

@@ -15,9 +15,9 @@ form_named word =
     if bytes_eq word (codes "svg") then Some Svg else None
 
 -- The words request a picture of this form.
-abbrev pub form_asked : List (List ℕ) → Option Form
-form_asked [] = None
-form_asked (word ∷ options) = form_named word
+abbrev pub parsed_form : List (List ℕ) → Option Form
+parsed_form [] = None
+parsed_form (word ∷ options) = form_named word
 
 -- The command that `--of` names; without `--of` it is `run`.
 abbrev pub runner_named : Option (List ℕ) → Option Runner
@@ -46,6 +46,6 @@ run_behind None words = None
 run_behind (Some form) words = option_and_then run_given (options_of words)
 
 -- The command whose output the words request a picture of, and its number of harts.
-abbrev pub run_asked : List (List ℕ) → Option (Runner × ℕ)
-run_asked [] = None
-run_asked (word ∷ options) = run_behind (form_named word) options
+abbrev pub parsed_run : List (List ℕ) → Option (Runner × ℕ)
+parsed_run [] = None
+parsed_run (word ∷ options) = run_behind (form_named word) options

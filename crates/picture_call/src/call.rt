@@ -3,15 +3,15 @@ ghost use Rattle.std.specs.Prelude.{◌≡◌, map, string_bytes, None, IfOk, If
 ghost use Rattle.lithe_call.specs.declared.status.Status.{Status};
 ghost use Rattle.lithe_call.specs.Auditing.{status_by};
 ghost use Rattle.lithe_call.specs.FaultOf.{status_of};
-ghost use Rattle.lithe_call.specs.Telling.{Tells};
+ghost use Rattle.lithe_call.specs.Printing.{Prints};
 ghost use Rattle.picture_call.specs.Causes.{IsFault};
 ghost use Rattle.picture_call.specs.Pictures.{IsPictureFor};
 ghost use Rattle.picture_call.specs.Shown.{AreShown};
 ghost use Rattle.picture_call.specs.Texts.{fault_text, own_text};
-ghost use Rattle.picture_call.specs.Words.{run_asked};
+ghost use Rattle.picture_call.specs.Words.{parsed_run};
 
-use crate::asking::asked;
 use crate::drawing::drawn;
+use crate::parsing::parsed;
 use crate::text::{fault_text, own_text};
 use lithe_call::{Fault, MOST_AUDITED, Status, read_all, write_all};
 use outside_io::{Sink, Source};
@@ -44,15 +44,15 @@ pub fn serve_picture<A: Source, B: Sink, E: Sink>(
       read_faults = A.faults;
       taken = B.taken;
       write_faults = B.faults;
-      told = E.taken;
-      tell_faults = E.faults;
+      printed = E.taken;
+      print_faults = E.faults;
     }) (map string_bytes words.now) result source.old source.new out.old out.new err.old err.new }
 {
     match picture_for(alloc, words, source) {
-        Err(fault) => tell_fault(err, &fault),
+        Err(fault) => print_fault(err, &fault),
         Ok(picture) => {
             if !write_all(out, &picture.text) {
-                tell(err, Status::WriteFault)
+                print(err, Status::WriteFault)
             } else {
                 status_by(picture.verdict)
             }
@@ -64,19 +64,19 @@ pub fn serve_picture<A: Source, B: Sink, E: Sink>(
 /// form.
 pub fn no_picture_for_words<E: Sink>(err: &mut E) -> Status
     ensures same { result ≡ Status.Usage }
-    ensures told { Tells (E.taken err.old) (E.faults err.old) (own_text Status.Usage)
+    ensures printed { Prints (E.taken err.old) (E.faults err.old) (own_text Status.Usage)
         (E.taken err.new) (E.faults err.new) }
 {
-    tell(err, Status::Usage)
+    print(err, Status::Usage)
 }
 
 /// Ends a call that could not allocate its words: writes to `err` what `serve_picture` writes for an allocation failure.
 pub fn no_memory_for_picture<E: Sink>(err: &mut E) -> Status
     ensures same { result ≡ Status.NoMemory }
-    ensures told { Tells (E.taken err.old) (E.faults err.old) (own_text Status.NoMemory)
+    ensures printed { Prints (E.taken err.old) (E.faults err.old) (own_text Status.NoMemory)
         (E.taken err.new) (E.faults err.new) }
 {
-    tell(err, Status::NoMemory)
+    print(err, Status::NoMemory)
 }
 
 // The status of a picture that was written.
@@ -90,9 +90,9 @@ fn status_by(verdict: Verdict) -> Status
 }
 
 // Writes the text that reports the fault, and returns its status.
-fn tell_fault<E: Sink>(err: &mut E, fault: &Fault) -> Status
+fn print_fault<E: Sink>(err: &mut E, fault: &Fault) -> Status
     ensures same { result ≡ status_of fault.now }
-    ensures told { Tells (E.taken err.old) (E.faults err.old) (fault_text fault.now)
+    ensures printed { Prints (E.taken err.old) (E.faults err.old) (fault_text fault.now)
         (E.taken err.new) (E.faults err.new) }
 {
     let _ = write_all(err, fault_text(fault));
@@ -100,9 +100,9 @@ fn tell_fault<E: Sink>(err: &mut E, fault: &Fault) -> Status
 }
 
 // Writes the status's text, where that is always the same, and returns the status.
-fn tell<E: Sink>(err: &mut E, status: Status) -> Status
+fn print<E: Sink>(err: &mut E, status: Status) -> Status
     ensures same { result ≡ status }
-    ensures told { Tells (E.taken err.old) (E.faults err.old) (own_text status)
+    ensures printed { Prints (E.taken err.old) (E.faults err.old) (own_text status)
         (E.taken err.new) (E.faults err.new) }
 {
     let _ = write_all(err, own_text(status));
@@ -115,9 +115,9 @@ fn picture_for<A: Source>(alloc: Global, words: &[String], source: &mut A) -> Re
         (A.left source.old) (A.left source.new) (status_by picture.verdict) picture.text.items) }
     ensures fault { IfErr result (λ fault. IsFault (map string_bytes words.now) fault
         (A.left source.old) (A.left source.new) (A.faults source.old) (A.faults source.new)) }
-    ensures stays { run_asked (map string_bytes words.now) ≡ None → source.new ≡ source.old }
+    ensures stays { parsed_run (map string_bytes words.now) ≡ None → source.new ≡ source.old }
 {
-    let wanted = asked(alloc, words)?;
+    let wanted = parsed(alloc, words)?;
     let bytes = read_all(alloc, source, MOST_AUDITED)?;
     drawn(alloc, wanted, &bytes)
 }

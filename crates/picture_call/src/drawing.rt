@@ -11,7 +11,7 @@ ghost use Rattle.lithe_call.specs.Programs.{table_plan};
 ghost use Rattle.picture_call.specs.Causes.{HasNoPicture, HaveNoPicture, ReportsNoOutput, ReportsNoPicture};
 ghost use Rattle.picture_call.specs.Pictures.{AreDrawn, HasPicture, IsRunBy, teams_of};
 
-use crate::asking::Wanted;
+use crate::parsing::Wanted;
 use crate::runner::Runner;
 use array_lang::parse;
 use array_tree::Program;

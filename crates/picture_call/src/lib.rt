@@ -7,11 +7,11 @@
 //! pictures from memory.
 #![tactic(auto)]
 
-mod asking;
 mod call;
 mod drawing;
 mod laws;
 mod options;
+mod parsing;
 mod runner;
 mod text;
 

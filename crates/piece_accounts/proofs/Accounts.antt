@@ -14,7 +14,7 @@ use Rattle.step_eval.specs.Passes.{pass_of}
 use Rattle.site_passes.specs.Entering.{rest_entered}
 use Rattle.site_passes.proofs.Counts.{passes_are_within, rest_is_counted}
 use Rattle.site_passes.proofs.Goes.{steps_pass_sites, supplies_pass_sites}
-use Rattle.piece_accounts.specs.Piece.{IsAhead, IsAccounted, SkipsAsTold, AccountsBegin, AccountsStep, AccountsPassConstructs, AccountsEnd}
+use Rattle.piece_accounts.specs.Piece.{IsAhead, IsAccounted, SkipsAsReported, AccountsBegin, AccountsStep, AccountsPassConstructs, AccountsEnd}
 use Rattle.piece_accounts.proofs.Ahead.{work_steps, work_supplies}
 
 pub grown_then : (p : Plan) (a b c : List Entry) → HasGrown p a b → HasGrown p b c → HasGrown p a c
@@ -54,10 +54,10 @@ record Touches (p : Plan) (es es' : List Entry) (next : ℕ) (ws : List WorkAt) 
   grown : HasGrown p es es'
   outside : KeepsOutside p es es' first count
 
-step_touches : (p : Plan) (es es' : List Entry) (arrays : Arrays) (store : Store) (next : ℕ) (ws : List WorkAt) → SkipsAsTold p es es' (pass_of arrays store next ws) → Touches p es es' next ws
+step_touches : (p : Plan) (es es' : List Entry) (arrays : Arrays) (store : Store) (next : ℕ) (ws : List WorkAt) → SkipsAsReported p es es' (pass_of arrays store next ws) → Touches p es es' next ws
 step_touches p es es' arrays store next ws skips = cases (pass_of arrays store next ws) refl skips
   where
-    cases : (o : Option (ℕ × ℕ)) → pass_of arrays store next ws ≡ o → SkipsAsTold p es es' o → Touches p es es' next ws
+    cases : (o : Option (ℕ × ℕ)) → pass_of arrays store next ws ≡ o → SkipsAsReported p es es' o → Touches p es es' next ws
     cases None e same = subst (λ z. Touches p es z next ws) (sym same) record {
       first = next;
       count = 0;

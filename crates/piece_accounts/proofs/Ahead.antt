@@ -17,7 +17,7 @@ use Rattle.step_eval.specs.Moves.{work_moved, work_passes}
 use Rattle.step_eval.specs.Machines.{construct_of}
 use Rattle.step_eval.proofs.LeftLemmas.{span_times}
 use Rattle.step_eval.specs.Passes.{some_span, work_pass}
-use Rattle.piece_accounts.specs.Piece.{IsAhead, SkipsAsTold, NextConstructsAreFresh}
+use Rattle.piece_accounts.specs.Piece.{IsAhead, SkipsAsReported, NextConstructsAreFresh}
 
 fresh_at : (p : Plan) (es : List Entry) (s t n m : ℕ) → s ≡ t → n ≡ m → AreFresh p es s n → AreFresh p es t m
 fresh_at p es s t n m a b fresh x site low high = fresh x site (omega (arith, low, a)) (omega (arith, high, a, b))
@@ -48,13 +48,13 @@ rest_ahead p es next first rest vars n more h =
     (both.0, (both.1, over_at p es (next + (a + b)) (next + a + b) n (omega arith) h.1, ahead_at p es (next + (a + b) + n) (next + a + b + n) more (omega arith) h.2))
 
 -- A hart skipped the span that it was to skip, unless the span is empty.
-told : (p : Plan) (es es' : List Entry) (a n : ℕ) → SkipsAsTold p es es' (some_span a n) → IsSkippedSpan p es es' a n
-told p es es' a zero same = subst (λ e. IsSkippedSpan p es e a 0) (sym same) record {
+reported : (p : Plan) (es es' : List Entry) (a n : ℕ) → SkipsAsReported p es es' (some_span a n) → IsSkippedSpan p es es' a n
+reported p es es' a zero same = subst (λ e. IsSkippedSpan p es e a 0) (sym same) record {
   over = tt;
   grown = record { went = λ x. omega arith; skipped = λ x. omega arith };
   outside = λ x site out. record { came = refl; went = refl; skipped = refl };
 }
-told p es es' a (suc n) skipped = let z : a + suc n - a ≡ suc n = omega arith in subst (IsSkippedSpan p es es' a) z skipped
+reported p es es' a (suc n) skipped = let z : a + suc n - a ≡ suc n = omega arith in subst (IsSkippedSpan p es es' a) z skipped
 
 abbrev Steps : Plan → List Entry → Arrays → Store → WorkTree → Vars → ℕ → List WorkAt → ℕ → Type 0
 Steps p es arrays store w vars n more next =
@@ -67,7 +67,7 @@ work_ends p es next k n more none over later =
     (over_at p es (next + k) next n (omega (arith, none)) over, ahead_at p es (next + k + n) (next + n) more (omega (arith, none)) later)
 
 pub work_steps : (p : Plan) (es es' : List Entry) (arrays : Arrays) (store : Store) (w : WorkTree) (vars : Vars) (n : ℕ) (more : List WorkAt) (next : ℕ) → construct_of w ≡ None →
-    SkipsAsTold p es es' (work_pass arrays store next w vars) → IsAhead p es next (before w vars n ∷ more) → Steps p es' arrays store w vars n more next
+    SkipsAsReported p es es' (work_pass arrays store next w vars) → IsAhead p es next (before w vars n ∷ more) → Steps p es' arrays store w vars n more next
 work_steps p es es' arrays store (branch_of ended) vars n more next none same h =
     subst (λ e. Steps p e arrays store (branch_of ended) vars n more next) (sym same) (work_ends p es next 0 n more refl h.1 h.2)
 work_steps p es es' arrays store (branch_of (followed (Assign line array index value) rest)) vars n more next none same h =
@@ -92,7 +92,7 @@ work_steps p es es' arrays store (branch_of (followed (If line test left right) 
     behind : List WorkAt
     behind = before (branch_of rest) vars n ∷ more
 
-    sides : (b : Bool) → SkipsAsTold p es es' (cond b (some_span (next + sites_in left) (sites_in right)) (some_span next (sites_in left))) →
+    sides : (b : Bool) → SkipsAsReported p es es' (cond b (some_span (next + sites_in left) (sites_in right)) (some_span next (sites_in left))) →
         AreOverAs p es' next (replicate (cond b 0 (sites_in left)) false)
         × IsAhead p es' (next + cond b 0 (sites_in left)) (cond b (before (branch_of left) vars (sites_in right)) (at (branch_of right) vars) ∷ before (branch_of rest) vars n ∷ more)
     sides true skipped =
@@ -100,7 +100,7 @@ work_steps p es es' arrays store (branch_of (followed (If line test left right) 
         let r = sites_in right in
         let both = rest_ahead p es next (If line test left right) rest vars n more h in
         let parts = (fresh_joins p es next l r).0 both.0 in
-        let is = told p es es' (next + l) r skipped in
+        let is = reported p es es' (next + l) r skipped in
         let here = fresh_lasts p es es' next l (next + l) r is.outside (inl (omega arith)) parts.0 in
         let later = ahead_lasts p es es' (next + (l + r)) (next + l) r (before (branch_of rest) vars n ∷ more) is.grown is.outside (omega arith) both.1 in (
           tt,
@@ -115,7 +115,7 @@ work_steps p es es' arrays store (branch_of (followed (If line test left right) 
         let r = sites_in right in
         let both = rest_ahead p es next (If line test left right) rest vars n more h in
         let parts = (fresh_joins p es next l r).0 both.0 in
-        let is = told p es es' next l skipped in
+        let is = reported p es es' next l skipped in
         let here = fresh_lasts p es es' (next + l) r next l is.outside (inr (omega arith)) parts.1 in
         let later = ahead_lasts p es es' (next + (l + r)) next l (before (branch_of rest) vars n ∷ more) is.grown is.outside (omega arith) both.1 in
         (is.over, (here, tt, ahead_at p es' (next + (l + r)) (next + l + r + 0) (before (branch_of rest) vars n ∷ more) (omega arith) later))

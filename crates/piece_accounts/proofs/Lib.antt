@@ -4,4 +4,4 @@ pub mod Each
 pub mod Serving
 pub mod Laid
 pub mod NotDone
-pub mod Told
+pub mod Reported

@@ -38,9 +38,9 @@ pub record IsAccounted (p : Plan) (start es : List Entry) (arrays : Arrays) (fir
   pub outside : KeepsOutside p start es first (length meant)
 
 -- A hart skips the span that it gets. Without a span it does nothing.
-abbrev pub SkipsAsTold : Plan → List Entry → List Entry → Option (ℕ × ℕ) → Type 0
-SkipsAsTold p before after None = after ≡ before
-SkipsAsTold p before after (Some span) = IsSkippedSpan p before after span.0 (span.1 - span.0)
+abbrev pub SkipsAsReported : Plan → List Entry → List Entry → Option (ℕ × ℕ) → Type 0
+SkipsAsReported p before after None = after ≡ before
+SkipsAsReported p before after (Some span) = IsSkippedSpan p before after span.0 (span.1 - span.0)
 
 -- The effect of a construct's pieces: its sites have ended as it enters them, and no other site was touched.
 pub record IsRunConstruct (p : Plan) (before after : List Entry) (s n : ℕ) (meant : List Bool)
@@ -61,7 +61,7 @@ abbrev pub AccountsStep : Type 0
 AccountsStep = (p : Plan) (start es es' : List Entry) (arrays : Arrays) (first : ℕ)
     (meant : List Bool) (w : WorkAt) (more : List WorkAt) (store : Store) (next : ℕ)
     → construct_of w.work ≡ None
-    → SkipsAsTold p es es' (pass_of arrays store next (w ∷ more))
+    → SkipsAsReported p es es' (pass_of arrays store next (w ∷ more))
     → IsAccounted p start es arrays first meant (w ∷ more) store next
     → IsAccounted p start es' arrays first meant (moved arrays store w ++ more)
     (after (moved_writes arrays store w.work w.vars) store) (next + moved_sites arrays store w)

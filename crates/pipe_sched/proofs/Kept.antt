@@ -19,13 +19,13 @@ use Rattle.pipe_sched.proofs.Places.{filled_up_to, it_follows}
 use Rattle.pipe_sched.proofs.Changes.{changed_back, changed_at, changed_length, changed_map}
 
 -- the model of a pipeline, by its construct and slots
-abbrev pub told_pipe : NestedParts → List Slot → PipeParts
-told_pipe nested slots = record { nested = nested; marks = map mark_of slots }
+abbrev pub pipe_model : NestedParts → List Slot → PipeParts
+pipe_model nested slots = record { nested = nested; marks = map mark_of slots }
 
 -- ---- facts on a slot
 
-pub told_at : (slots : List Slot) (i : ℕ) (own : Slot) → slice_get slots i ≡ Some own → slice_get (map mark_of slots) i ≡ Some (mark_of own)
-told_at slots i own e = slice_get-map mark_of slots i ∙ ap (option_map mark_of) e
+pub model_at : (slots : List Slot) (i : ℕ) (own : Slot) → slice_get slots i ≡ Some own → slice_get (map mark_of slots) i ≡ Some (mark_of own)
+model_at slots i own e = slice_get-map mark_of slots i ∙ ap (option_map mark_of) e
 
 pub held_at : (slots : List Slot) (i : ℕ) (mark : Mark) → slice_get (map mark_of slots) i ≡ Some mark →
     (own : Slot) × (slice_get slots i ≡ Some own) × (mark_of own ≡ mark)
@@ -39,8 +39,8 @@ waiting_marks : (n : ℕ) → map mark_of (replicate n slot.Waiting) ≡ replica
 waiting_marks zero = refl
 waiting_marks (suc n) = ap (λ ms. Waiting ∷ ms) (waiting_marks n)
 
-pub told_new : (slots : List Slot) (n : ℕ) → slots ≡ replicate n slot.Waiting → map mark_of slots ≡ replicate n Waiting
-told_new slots n e = ap (map mark_of) e ∙ waiting_marks n
+pub new_model : (slots : List Slot) (n : ℕ) → slots ≡ replicate n slot.Waiting → map mark_of slots ≡ replicate n Waiting
+new_model slots n e = ap (map mark_of) e ∙ waiting_marks n
 
 pub kept_new : (nested : NestedParts) (slots : List Slot) → kind_of (statement_of nested.construct) ≡ Some kind.Team → IsFitNest (nested_of nested) →
     slots ≡ replicate (members_in nested * phases_in nested) slot.Waiting → IsKept nested slots
@@ -56,7 +56,7 @@ kept_new nested slots team fit e =
           subst (IsRight (nested_of nested) j k) (sym same) tt;
       order = λ j k mark here begun.
           let Q : List Mark → Type 0 = λ l. slice_get l (j * phases_in nested + k) ≡ Some mark in
-          let same : mark ≡ Waiting = at_replicate count (j * phases_in nested + k) Waiting mark (subst Q (told_new slots count e) here.1) in
+          let same : mark ≡ Waiting = at_replicate count (j * phases_in nested + k) Waiting mark (subst Q (new_model slots count e) here.1) in
           absurd (cc (same, begun));
     }
 
@@ -120,9 +120,9 @@ kept_set nested slots j k own kept less clear other right = record {
         kept.right i h s small (sym (at_other slots (j * phases_in nested + k) (i * phases_in nested + h) own ne) ∙ here)
 
 -- The model of the slots after one changed.
-pub told_set : (slots : List Slot) (place : ℕ) (own : Slot) (mark : Mark) → mark_of own ≡ mark →
+pub set_model : (slots : List Slot) (place : ℕ) (own : Slot) (mark : Mark) → mark_of own ≡ mark →
     map mark_of (slice_set slots place own) ≡ slice_set (map mark_of slots) place mark
-told_set slots place own mark e = map-set mark_of slots place own ∙ ap (slice_set (map mark_of slots) place) e
+set_model slots place own mark e = map-set mark_of slots place own ∙ ap (slice_set (map mark_of slots) place) e
 
 -- ---- slots fail
 
@@ -164,9 +164,9 @@ marks_fail (slot.Out job) = refl
 marks_fail (slot.Filled job written) = refl
 marks_fail (slot.Lost job) = refl
 
-pub told_failed : (slots : List Slot) (test : ℕ → Bool) →
+pub failed_model : (slots : List Slot) (test : ℕ → Bool) →
     map mark_of (changed_where test failed_slot 0 slots) ≡ changed_where test failed_mark 0 (map mark_of slots)
-told_failed slots test = changed_map test failed_slot failed_mark mark_of marks_fail 0 slots
+failed_model slots test = changed_map test failed_slot failed_mark mark_of marks_fail 0 slots
 
 pub kept_failed : (nested : NestedParts) (slots : List Slot) (test : ℕ → Bool) → IsKept nested slots → IsKept nested (changed_where test failed_slot 0 slots)
 kept_failed nested slots test kept = record {
@@ -178,7 +178,7 @@ kept_failed nested slots test kept = record {
       let back = changed_back test failed_slot 0 slots place own here in
       subst (IsRight (nested_of nested) j k) (sym back.2)
       (right_failed (nested_of nested) j k (test (0 + place)) back.0 (kept.right j k back.0 less back.1));
-  order = subst (AreInOrder (phases_in nested)) (sym (told_failed slots test)) (order_failed (phases_in nested) (map mark_of slots) test kept.order);
+  order = subst (AreInOrder (phases_in nested)) (sym (failed_model slots test)) (order_failed (phases_in nested) (map mark_of slots) test kept.order);
 }
 
 -- ---- where failures begin

@@ -17,7 +17,7 @@ use Rattle.pipe_sched.specs.Pipes.{IsJobAt}
 use Rattle.pipe_sched.specs.Inside.{mark_of, AreNext, IsHeld, LooksReady}
 use Rattle.pipe_sched.proofs.Places.{marked_read}
 use Rattle.pipe_sched.proofs.Changes.{changed_back}
-use Rattle.pipe_sched.proofs.Kept.{told_pipe, told_set}
+use Rattle.pipe_sched.proofs.Kept.{pipe_model, set_model}
 use Rattle.pipe_sched.proofs.Told.{ready_here, room_for, handing_keeps, filling_keeps}
 
 -- ---- which piece can be due
@@ -183,7 +183,7 @@ next_failed n marks next test are i h mark here =
 -- ---- the type's invariant
 
 -- A ready piece is handed out.
-pub handing_holds : (nested : NestedParts) (slots : List Slot) (next : List ℕ) (pipe : PipeParts) (j k place f v : ℕ) (job : JobParts) → told_pipe nested slots ≡ pipe →
+pub handing_holds : (nested : NestedParts) (slots : List Slot) (next : List ℕ) (pipe : PipeParts) (j k place f v : ℕ) (job : JobParts) → pipe_model nested slots ≡ pipe →
     IsHeld nested slots next → IsReady (phases_in pipe.nested) pipe.marks j k → IsJobAt (nested_of pipe.nested) j k (job_of job) → place ≡ j * phases_in nested + k →
     f ≡ j → v ≡ k + 1 → IsHeld nested (slice_set slots place (slot.Out job)) (slice_set next f v)
 handing_holds nested slots next pipe j k place f v job e held ready own is g h =
@@ -194,7 +194,7 @@ handing_holds nested slots next pipe j k place f v job e held ready own is g h =
     let member = room.member in
     let there : j < length next = omega (arith, count, member) in
     let marks : map mark_of (slice_set slots place (slot.Out job)) ≡ slice_set (map mark_of slots) (j * n + k) Out
-    = ap (λ p. map mark_of (slice_set slots p (slot.Out job))) is ∙ told_set slots (j * n + k) (slot.Out job) Out refl in
+    = ap (λ p. map mark_of (slice_set slots p (slot.Out job))) is ∙ set_model slots (j * n + k) (slot.Out job) Out refl in
     let after : slice_set next j (k + 1) ≡ slice_set next f v = ap (λ m. slice_set next m (k + 1)) (sym g) ∙ ap (slice_set next f) (sym h) in
     record {
       kept = handing_keeps nested slots pipe j k place job e held.kept ready own is;
@@ -205,14 +205,14 @@ handing_holds nested slots next pipe j k place f v job e held ready own is g h =
     }
 
 -- A piece that is out is filled.
-pub filling_holds : (nested : NestedParts) (slots : List Slot) (next : List ℕ) (pipe : PipeParts) (j k place : ℕ) (job : JobParts) (written : Laid) → told_pipe nested slots ≡ pipe →
+pub filling_holds : (nested : NestedParts) (slots : List Slot) (next : List ℕ) (pipe : PipeParts) (j k place : ℕ) (job : JobParts) (written : Laid) → pipe_model nested slots ≡ pipe →
     IsHeld nested slots next → IsMarked pipe j k Out → IsJobAt (nested_of pipe.nested) j k (job_of job) → written.pairs ≡ piece_of_job (job_of job) → place ≡ j * phases_in nested + k →
     IsHeld nested (slice_set slots place (slot.Filled job written)) next
 filling_holds nested slots next pipe j k place job written e held out own right is =
     let n = phases_in nested in
     let here = subst (λ (p : PipeParts). IsMarked p j k Out) (sym e) out in
     let marks : map mark_of (slice_set slots place (slot.Filled job written)) ≡ slice_set (map mark_of slots) (j * n + k) Filled
-    = ap (λ p. map mark_of (slice_set slots p (slot.Filled job written))) is ∙ told_set slots (j * n + k) (slot.Filled job written) Filled refl in
+    = ap (λ p. map mark_of (slice_set slots p (slot.Filled job written))) is ∙ set_model slots (j * n + k) (slot.Filled job written) Filled refl in
     record {
       kept = filling_keeps nested slots pipe j k place job written e held.kept out own right is;
       members = held.members;

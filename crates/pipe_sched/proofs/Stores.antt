@@ -17,7 +17,7 @@ use Rattle.pipe_sched.specs.declared.slot.Slot.TheVariants as slot
 use Rattle.pipe_sched.specs.Slots.{Filled, PipeParts, phases_in, IsAt, IsClear, IsReady, IsMarked}
 use Rattle.pipe_sched.specs.Pipes.{piped_writes, piped_store}
 use Rattle.pipe_sched.specs.Inside.{mark_of, IsRight, IsKept, written_in, started_from, written_with, column, columns}
-use Rattle.pipe_sched.proofs.Kept.{told_pipe, told_at}
+use Rattle.pipe_sched.proofs.Kept.{pipe_model, model_at}
 use Rattle.pipe_sched.proofs.Merges.{concat_one_more}
 use Rattle.pipe_sched.proofs.Writes.{filled_entry, seen_is}
 
@@ -53,7 +53,7 @@ left_by : (nested : NestedParts) (slots : List Slot) (j k : ℕ) (own : Slot) �
 left_by nested slots j k own kept filled here =
     let place = j * phases_in nested + k in
     let before = written_before (piped_writes (nested_of nested)) j k in
-    let mark : mark_of own ≡ Filled = same_Some (mark_of own) Filled (sym (told_at slots place own here) ∙ filled.1) in
+    let mark : mark_of own ≡ Filled = same_Some (mark_of own) Filled (sym (model_at slots place own here) ∙ filled.1) in
     let entry : get_or (get_or (piped_writes (nested_of nested)) k []) j [] ≡ written_in own
     = entry_is nested slots j k kept filled ∙ ap written_in (get_or_from_slice_get slots place own slot.Barred here) in
     ap (after (written_in own)) (started_is (nested_of nested) j k own (kept.right j k own filled.0 here) mark)
@@ -61,11 +61,11 @@ left_by nested slots j k own kept filled here =
     ∙ ap (λ ws. after (before ++ ws) nested.store) (sym entry)
 
 -- The store that a filled piece leaves, read from its slot.
-pub left_is_told : (nested : NestedParts) (slots : List Slot) (pipe : PipeParts) (j k place : ℕ) (own : Slot) (left : Store) →
-    told_pipe nested slots ≡ pipe → IsKept nested slots → IsMarked pipe j k Filled → place ≡ j * phases_in nested + k →
+pub left_is_in_model : (nested : NestedParts) (slots : List Slot) (pipe : PipeParts) (j k place : ℕ) (own : Slot) (left : Store) →
+    pipe_model nested slots ≡ pipe → IsKept nested slots → IsMarked pipe j k Filled → place ≡ j * phases_in nested + k →
     place < length slots → own ≡ get_or slots place own → left ≡ after (written_in own) (started_from own) →
     left ≡ after (written_with (piped_writes (nested_of pipe.nested)) j k) pipe.nested.store
-left_is_told nested slots pipe j k place own left e kept marked is less read by =
+left_is_in_model nested slots pipe j k place own left e kept marked is less read by =
     let here = subst (λ (p : PipeParts). IsMarked p j k Filled) (sym e) marked in
     let there : slice_get slots (j * phases_in nested + k) ≡ Some own
     = ap (slice_get slots) (sym is) ∙ slice_get_read slots (length slots) place own refl less read in
@@ -118,13 +118,13 @@ seen_above nested slots j kept some clear =
 -- ---- the store of a piece before which all are filled
 
 -- The start of a piece that isn't in the first phase.
-pub later_is_told : (nested : NestedParts) (slots given : List Slot) (pipe : PipeParts) (j k p below own : ℕ) (start merged : Trace) (store : Store) →
-    told_pipe nested slots ≡ pipe → IsKept nested slots → IsReady (phases_in pipe.nested) pipe.marks j k → 0 < k →
+pub later_is_in_model : (nested : NestedParts) (slots given : List Slot) (pipe : PipeParts) (j k p below own : ℕ) (start merged : Trace) (store : Store) →
+    pipe_model nested slots ≡ pipe → IsKept nested slots → IsReady (phases_in pipe.nested) pipe.marks j k → 0 < k →
     given ≡ slots → p ≡ phases_in nested → below ≡ j → own ≡ k →
     start.cells ≡ after (written_with (piped_writes (nested_of pipe.nested)) j (k - 1)) pipe.nested.store →
     merged ≡ noted_all (concat (column p given own below)) start → store ≡ merged.cells → store ≡ piped_store (nested_of pipe.nested) j k
-later_is_told nested slots given pipe j zero p below own start merged store e kept ready later g n b a left is taken = absurd (omega arith)
-later_is_told nested slots given pipe j (suc k) p below own start merged store e kept ready later g n b a left is taken =
+later_is_in_model nested slots given pipe j zero p below own start merged store e kept ready later g n b a left is taken = absurd (omega arith)
+later_is_in_model nested slots given pipe j (suc k) p below own start merged store e kept ready later g n b a left is taken =
     let rows = piped_writes (nested_of nested) in
     let row = concat (column (phases_in nested) slots (suc k) j) in
     let here = subst (λ (t : PipeParts). IsReady (phases_in t.nested) t.marks j (suc k)) (sym e) ready in
@@ -142,12 +142,12 @@ later_is_told nested slots given pipe j (suc k) p below own start merged store e
     ∙ ap (λ (t : PipeParts). piped_store (nested_of t.nested) j (suc k)) e
 
 -- The start of a piece in the first phase, of a member that isn't the first.
-pub above_is_told : (nested : NestedParts) (slots : List Slot) (pipe : PipeParts) (j : ℕ) (start : Trace) (store : Store) →
-    told_pipe nested slots ≡ pipe → IsKept nested slots → IsReady (phases_in pipe.nested) pipe.marks j 0 → 0 < j →
+pub above_is_in_model : (nested : NestedParts) (slots : List Slot) (pipe : PipeParts) (j : ℕ) (start : Trace) (store : Store) →
+    pipe_model nested slots ≡ pipe → IsKept nested slots → IsReady (phases_in pipe.nested) pipe.marks j 0 → 0 < j →
     start.cells ≡ after (written_with (piped_writes (nested_of pipe.nested)) (j - 1) 0) pipe.nested.store →
     store ≡ start.cells → store ≡ piped_store (nested_of pipe.nested) j 0
-above_is_told nested slots pipe zero start store e kept ready later left taken = absurd (omega arith)
-above_is_told nested slots pipe (suc j) start store e kept ready later left taken =
+above_is_in_model nested slots pipe zero start store e kept ready later left taken = absurd (omega arith)
+above_is_in_model nested slots pipe (suc j) start store e kept ready later left taken =
     let rows = piped_writes (nested_of nested) in
     let here = subst (λ (t : PipeParts). IsReady (phases_in t.nested) t.marks (suc j) 0) (sym e) ready in
     let back : suc j - 1 ≡ j = omega arith in
@@ -158,10 +158,10 @@ above_is_told nested slots pipe (suc j) start store e kept ready later left take
     ∙ ap (λ (t : PipeParts). piped_store (nested_of t.nested) (suc j) 0) e
 
 -- The start of the first piece.
-pub first_is_told : (nested : NestedParts) (slots : List Slot) (pipe : PipeParts) (j : ℕ) (store : Store) →
-    told_pipe nested slots ≡ pipe → IsKept nested slots → IsReady (phases_in pipe.nested) pipe.marks j 0 → j ≡ 0 →
+pub first_is_in_model : (nested : NestedParts) (slots : List Slot) (pipe : PipeParts) (j : ℕ) (store : Store) →
+    pipe_model nested slots ≡ pipe → IsKept nested slots → IsReady (phases_in pipe.nested) pipe.marks j 0 → j ≡ 0 →
     store ≡ pipe.nested.store → store ≡ piped_store (nested_of pipe.nested) j 0
-first_is_told nested slots pipe j store e kept ready low taken =
+first_is_in_model nested slots pipe j store e kept ready low taken =
     let here = subst (λ (t : PipeParts). IsReady (phases_in t.nested) t.marks j 0) (sym e) ready in
     let none = subst (λ m. IsReady (phases_in nested) (map mark_of slots) m 0) low here in
     taken ∙ ap (λ (t : PipeParts). t.nested.store) (sym e)
@@ -180,10 +180,10 @@ below_filled pipe j ready later =
     ready.clear (j - 1) 0 (record { member = omega arith; phase = omega arith; other = inl (omega arith) })
 
 -- A slot that is read is filled if its mark is.
-pub filled_here : (nested : NestedParts) (slots : List Slot) (pipe : PipeParts) (j k place : ℕ) (own : Slot) → told_pipe nested slots ≡ pipe →
+pub filled_here : (nested : NestedParts) (slots : List Slot) (pipe : PipeParts) (j k place : ℕ) (own : Slot) → pipe_model nested slots ≡ pipe →
     IsMarked pipe j k Filled → place ≡ j * phases_in nested + k → place < length slots → own ≡ get_or slots place own → mark_of own ≡ Filled
 filled_here nested slots pipe j k place own e marked is less read =
     let here = subst (λ (p : PipeParts). IsMarked p j k Filled) (sym e) marked in
     let there : slice_get slots (j * phases_in nested + k) ≡ Some own
     = ap (slice_get slots) (sym is) ∙ slice_get_read slots (length slots) place own refl less read in
-    same_Some (mark_of own) Filled (sym (told_at slots (j * phases_in nested + k) own there) ∙ here.1)
+    same_Some (mark_of own) Filled (sym (model_at slots (j * phases_in nested + k) own there) ∙ here.1)

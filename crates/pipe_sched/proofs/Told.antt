@@ -16,35 +16,35 @@ use Rattle.pipe_sched.specs.Pipes.{IsJobAt, WasHandedOut, HandsOut}
 use Rattle.pipe_sched.specs.Inside.{mark_of, HasJob, failed_slot, IsRight, AreSettled, HaveFailed, LooksReady, IsKept}
 use Rattle.pipe_sched.proofs.Places.{read_within, first_is_due, none_is_ready}
 use Rattle.pipe_sched.proofs.Changes.{at_own, changed_length}
-use Rattle.pipe_sched.proofs.Kept.{told_pipe, told_at, held_at, told_new, told_set, told_failed, kept_set, fails_from}
+use Rattle.pipe_sched.proofs.Kept.{pipe_model, model_at, held_at, new_model, set_model, failed_model, kept_set, fails_from}
 
-abbrev told_marks : NestedParts → List Mark → PipeParts
-told_marks nested marks = record { nested = nested; marks = marks }
+abbrev marks_model : NestedParts → List Mark → PipeParts
+marks_model nested marks = record { nested = nested; marks = marks }
 
-pub new_is_told : (nested : NestedParts) (slots : List Slot) → slots ≡ replicate (members_in nested * phases_in nested) slot.Waiting → told_pipe nested slots ≡ new_pipe nested
-new_is_told nested slots e = ap (told_marks nested) (told_new slots (members_in nested * phases_in nested) e)
+pub new_is_in_model : (nested : NestedParts) (slots : List Slot) → slots ≡ replicate (members_in nested * phases_in nested) slot.Waiting → pipe_model nested slots ≡ new_pipe nested
+new_is_in_model nested slots e = ap (marks_model nested) (new_model slots (members_in nested * phases_in nested) e)
 
-pub mark_is_told : (nested : NestedParts) (slots after : List Slot) (pipe : PipeParts) (j k : ℕ) (own : Slot) (mark : Mark) → told_pipe nested slots ≡ pipe →
-    after ≡ slice_set slots (j * phases_in nested + k) own → mark_of own ≡ mark → told_pipe nested after ≡ marked_pipe pipe j k mark
-mark_is_told nested slots after pipe j k own mark e is same =
-    let P : PipeParts → Type 0 = λ p. told_pipe nested after ≡ marked_pipe p j k mark in
-    subst P e (ap (told_pipe nested) is ∙ ap (told_marks nested) (told_set slots (j * phases_in nested + k) own mark same))
+pub mark_is_in_model : (nested : NestedParts) (slots after : List Slot) (pipe : PipeParts) (j k : ℕ) (own : Slot) (mark : Mark) → pipe_model nested slots ≡ pipe →
+    after ≡ slice_set slots (j * phases_in nested + k) own → mark_of own ≡ mark → pipe_model nested after ≡ marked_pipe pipe j k mark
+mark_is_in_model nested slots after pipe j k own mark e is same =
+    let P : PipeParts → Type 0 = λ p. pipe_model nested after ≡ marked_pipe p j k mark in
+    subst P e (ap (pipe_model nested) is ∙ ap (marks_model nested) (set_model slots (j * phases_in nested + k) own mark same))
 
-pub failing_is_told : (nested : NestedParts) (slots after : List Slot) (pipe : PipeParts) (j k : ℕ) → told_pipe nested slots ≡ pipe →
-    after ≡ changed_where (follows (phases_in nested) j k) failed_slot 0 slots → told_pipe nested after ≡ failed_pipe pipe j k
-failing_is_told nested slots after pipe j k e is =
-    let P : PipeParts → Type 0 = λ p. told_pipe nested after ≡ failed_pipe p j k in
-    subst P e (ap (told_pipe nested) is ∙ ap (told_marks nested) (told_failed slots (follows (phases_in nested) j k)))
+pub failing_is_in_model : (nested : NestedParts) (slots after : List Slot) (pipe : PipeParts) (j k : ℕ) → pipe_model nested slots ≡ pipe →
+    after ≡ changed_where (follows (phases_in nested) j k) failed_slot 0 slots → pipe_model nested after ≡ failed_pipe pipe j k
+failing_is_in_model nested slots after pipe j k e is =
+    let P : PipeParts → Type 0 = λ p. pipe_model nested after ≡ failed_pipe p j k in
+    subst P e (ap (pipe_model nested) is ∙ ap (marks_model nested) (failed_model slots (follows (phases_in nested) j k)))
 
-pub full_is_told : (nested : NestedParts) (slots : List Slot) → AreSettled slots ↔ IsFull (told_pipe nested slots)
-full_is_told nested slots = (
+pub full_is_in_model : (nested : NestedParts) (slots : List Slot) → AreSettled slots ↔ IsFull (pipe_model nested slots)
+full_is_in_model nested slots = (
   λ settled i mark e. let held = held_at slots i mark e in ap is_settled (sym held.2) ∙ settled i held.0 held.1,
-  λ full i own e. full i (mark_of own) (told_at slots i own e),
+  λ full i own e. full i (mark_of own) (model_at slots i own e),
 )
 
-pub failed_is_told : (nested : NestedParts) (slots : List Slot) → HaveFailed slots ↔ HasFailed (told_pipe nested slots)
-failed_is_told nested slots = (
-  λ h. (h.0, mark_of h.1, told_at slots h.0 h.1 h.2, h.3),
+pub failed_is_in_model : (nested : NestedParts) (slots : List Slot) → HaveFailed slots ↔ HasFailed (pipe_model nested slots)
+failed_is_in_model nested slots = (
+  λ h. (h.0, mark_of h.1, model_at slots h.0 h.1 h.2, h.3),
   λ h. let held = held_at slots h.0 h.1 h.2 in (h.0, held.0, held.1, ap is_failed held.2 ∙ h.3),
 )
 
@@ -53,16 +53,16 @@ failed_is_told nested slots = (
 pub place_is : (f p h j n k : ℕ) → f ≡ j → p ≡ n → h ≡ k → f * p + h ≡ j * n + k
 place_is f p h j n k a b c = ap (λ m. m * p + h) a ∙ ap (λ m. j * m + h) b ∙ ap (λ m. j * n + m) c
 
-pub seen : (nested : NestedParts) (slots : List Slot) (pipe : PipeParts) (j k place : ℕ) (own : Slot) → told_pipe nested slots ≡ pipe → IsKept nested slots →
+pub seen : (nested : NestedParts) (slots : List Slot) (pipe : PipeParts) (j k place : ℕ) (own : Slot) → pipe_model nested slots ≡ pipe → IsKept nested slots →
     place ≡ j * phases_in nested + k → k < phases_in nested → place < length slots → own ≡ get_or slots place own →
     IsMarked pipe j k (mark_of own) × IsRight (nested_of pipe.nested) j k own
 seen nested slots pipe j k place own e kept is small less read =
     let there = slice_get_read slots (length slots) place own refl less read in
     let here : slice_get slots (j * phases_in nested + k) ≡ Some own = sym (ap (slice_get slots) is) ∙ there in
     let Q : PipeParts → Type 0 = λ p. IsMarked p j k (mark_of own) × IsRight (nested_of p.nested) j k own in
-    subst Q e ((small, told_at slots (j * phases_in nested + k) own here), kept.right j k own small here)
+    subst Q e ((small, model_at slots (j * phases_in nested + k) own here), kept.right j k own small here)
 
-pub unseen : (nested : NestedParts) (slots : List Slot) (pipe : PipeParts) (j k place : ℕ) → told_pipe nested slots ≡ pipe →
+pub unseen : (nested : NestedParts) (slots : List Slot) (pipe : PipeParts) (j k place : ℕ) → pipe_model nested slots ≡ pipe →
     place ≡ j * phases_in nested + k → length slots ≤ place → (mark : Mark) → IsMarked pipe j k mark → ⊥
 unseen nested slots pipe j k place e is le mark here =
     let Q : PipeParts → Type 0 = λ p. IsMarked p j k mark in
@@ -70,7 +70,7 @@ unseen nested slots pipe j k place e is le mark here =
     let less = read_within slots (j * phases_in nested + k) mark there.1 in
     omega (arith, less, is, le)
 
-pub unseen_phase : (nested : NestedParts) (slots : List Slot) (pipe : PipeParts) (j k : ℕ) → told_pipe nested slots ≡ pipe →
+pub unseen_phase : (nested : NestedParts) (slots : List Slot) (pipe : PipeParts) (j k : ℕ) → pipe_model nested slots ≡ pipe →
     phases_in nested ≤ k → (mark : Mark) → IsMarked pipe j k mark → ⊥
 unseen_phase nested slots pipe j k e le mark here =
     let Q : PipeParts → Type 0 = λ p. IsMarked p j k mark in
@@ -127,10 +127,10 @@ mark_is_out pipe j k mark marked =
 
 -- ---- which piece is due
 
-pub due_is_told : (nested : NestedParts) (slots given : List Slot) (pipe : PipeParts) (p place : ℕ) → told_pipe nested slots ≡ pipe → IsKept nested slots →
+pub due_is_in_model : (nested : NestedParts) (slots given : List Slot) (pipe : PipeParts) (p place : ℕ) → pipe_model nested slots ≡ pipe → IsKept nested slots →
     given ≡ slots → p ≡ phases_in nested → 0 < p → place < length given → LooksReady p given place →
     ((i : ℕ) → i < place → LooksReady p given i → ⊥) → IsDue pipe (place / p) (place % p)
-due_is_told nested slots given pipe p place e kept g q some less look first =
+due_is_in_model nested slots given pipe p place e kept g q some less look first =
     let n = phases_in nested in
     let marks = map mark_of slots in
     let there : place < length slots = subst (λ (l : List Slot). place < length l) g less in
@@ -141,7 +141,7 @@ due_is_told nested slots given pipe p place e kept g q some less look first =
     let P : PipeParts → Type 0 = λ t. IsDue t (place / p) (place % p) in
     subst P e (subst (λ m. IsFirst n marks (place / m) (place % m)) (sym q) due)
 
-pub none_is_due : (nested : NestedParts) (slots given : List Slot) (pipe : PipeParts) (p : ℕ) → told_pipe nested slots ≡ pipe →
+pub none_is_due : (nested : NestedParts) (slots given : List Slot) (pipe : PipeParts) (p : ℕ) → pipe_model nested slots ≡ pipe →
     given ≡ slots → p ≡ phases_in nested → ((i : ℕ) → i < length given → LooksReady p given i → ⊥) → NoneIsDue pipe
 none_is_due nested slots given pipe p e g q none =
     let n = phases_in nested in
@@ -152,11 +152,11 @@ none_is_due nested slots given pipe p e g q none =
 
 -- ---- handing out
 
-pub ready_here : (nested : NestedParts) (slots : List Slot) (pipe : PipeParts) (j k : ℕ) → told_pipe nested slots ≡ pipe →
+pub ready_here : (nested : NestedParts) (slots : List Slot) (pipe : PipeParts) (j k : ℕ) → pipe_model nested slots ≡ pipe →
     IsReady (phases_in pipe.nested) pipe.marks j k → IsReady (phases_in nested) (map mark_of slots) j k
 ready_here nested slots pipe j k e ready = subst (λ (p : PipeParts). IsReady (phases_in p.nested) p.marks j k) (sym e) ready
 
-pub handing_keeps : (nested : NestedParts) (slots : List Slot) (pipe : PipeParts) (j k place : ℕ) (job : JobParts) → told_pipe nested slots ≡ pipe → IsKept nested slots →
+pub handing_keeps : (nested : NestedParts) (slots : List Slot) (pipe : PipeParts) (j k place : ℕ) (job : JobParts) → pipe_model nested slots ≡ pipe → IsKept nested slots →
     IsReady (phases_in pipe.nested) pipe.marks j k → IsJobAt (nested_of pipe.nested) j k (job_of job) → place ≡ j * phases_in nested + k →
     IsKept nested (slice_set slots place (slot.Out job))
 handing_keeps nested slots pipe j k place job e kept ready own is =
@@ -166,15 +166,15 @@ handing_keeps nested slots pipe j k place job e kept ready own is =
     let P : ℕ → Type 0 = λ m. IsKept nested (slice_set slots m (slot.Out job)) in
     subst P (sym is) (kept_set nested slots j k (slot.Out job) kept here.waits.0 here.clear (λ filled. let full = filled.1 in absurd (cc (waits, full))) mine)
 
-pub out_is_told : (nested : NestedParts) (slots : List Slot) (pipe : PipeParts) (j k place : ℕ) (job : JobParts) → told_pipe nested slots ≡ pipe →
+pub out_is_in_model : (nested : NestedParts) (slots : List Slot) (pipe : PipeParts) (j k place : ℕ) (job : JobParts) → pipe_model nested slots ≡ pipe →
     IsReady (phases_in pipe.nested) pipe.marks j k → place ≡ j * phases_in nested + k →
     IsAt (phases_in nested) (map mark_of (slice_set slots place (slot.Out job))) j k Out
-out_is_told nested slots pipe j k place job e ready is =
+out_is_in_model nested slots pipe j k place job e ready is =
     let here = ready_here nested slots pipe j k e ready in
     let at_place = j * phases_in nested + k in
     let less = read_within slots at_place Waiting here.waits.1 in
     let P : ℕ → Type 0 = λ m. IsAt (phases_in nested) (map mark_of (slice_set slots m (slot.Out job))) j k Out in
-    subst P (sym is) (here.waits.0, told_at (slice_set slots at_place (slot.Out job)) at_place (slot.Out job) (at_own slots at_place (slot.Out job) less))
+    subst P (sym is) (here.waits.0, model_at (slice_set slots at_place (slot.Out job)) at_place (slot.Out job) (at_own slots at_place (slot.Out job) less))
 
 member_within : (j n k m : ℕ) → j * n + k < m * n → j < m
 member_within j n k m less = by_order (cases_lt j m)
@@ -190,7 +190,7 @@ pub record HasRoom (nested : NestedParts) (slots : List Slot) (j k : ℕ) : Type
   pub below : j * phases_in nested ≤ length slots
   pub row : (j + 1) * phases_in nested ≤ length slots
 
-pub room_for : (nested : NestedParts) (slots : List Slot) (pipe : PipeParts) (j k : ℕ) → told_pipe nested slots ≡ pipe → IsKept nested slots →
+pub room_for : (nested : NestedParts) (slots : List Slot) (pipe : PipeParts) (j k : ℕ) → pipe_model nested slots ≡ pipe → IsKept nested slots →
     IsReady (phases_in pipe.nested) pipe.marks j k → HasRoom nested slots j k
 room_for nested slots pipe j k e kept ready =
     let n = phases_in nested in
@@ -208,7 +208,7 @@ room_for nested slots pipe j k e kept ready =
 
 -- ---- filling
 
-pub filling_keeps : (nested : NestedParts) (slots : List Slot) (pipe : PipeParts) (j k place : ℕ) (job : JobParts) (written : Laid) → told_pipe nested slots ≡ pipe → IsKept nested slots →
+pub filling_keeps : (nested : NestedParts) (slots : List Slot) (pipe : PipeParts) (j k place : ℕ) (job : JobParts) (written : Laid) → pipe_model nested slots ≡ pipe → IsKept nested slots →
     IsMarked pipe j k Out → IsJobAt (nested_of pipe.nested) j k (job_of job) → written.pairs ≡ piece_of_job (job_of job) → place ≡ j * phases_in nested + k →
     IsKept nested (slice_set slots place (slot.Filled job written))
 filling_keeps nested slots pipe j k place job written e kept out own right is =
@@ -219,7 +219,7 @@ filling_keeps nested slots pipe j k place job written e kept out own right is =
     subst P (sym is) (kept_set nested slots j k (slot.Filled job written) kept here.0 (kept.order j k Out here refl)
     (λ filled. let full = filled.1 in absurd (cc (now_out, full))) (mine, right))
 
-pub place_within : (nested : NestedParts) (slots : List Slot) (pipe : PipeParts) (j k place : ℕ) (mark : Mark) → told_pipe nested slots ≡ pipe →
+pub place_within : (nested : NestedParts) (slots : List Slot) (pipe : PipeParts) (j k place : ℕ) (mark : Mark) → pipe_model nested slots ≡ pipe →
     IsMarked pipe j k mark → place ≡ j * phases_in nested + k → place < length slots
 place_within nested slots pipe j k place mark e marked is =
     let here = subst (λ (p : PipeParts). IsMarked p j k mark) (sym e) marked in
@@ -254,13 +254,13 @@ failing_whole slots given now len p f h n j k g l a b c is =
     ∙ take_all_of len now (omega (arith, size, l))
     ∙ whole
 
-pub fails_here : (nested : NestedParts) (slots after : List Slot) (pipe : PipeParts) (j k : ℕ) → told_pipe nested slots ≡ pipe → IsKept nested slots →
-    IsMarked pipe j k Out ⊎ IsDue pipe j k → after ≡ changed_where (follows (phases_in nested) j k) failed_slot 0 slots → FailsFrom (told_pipe nested after) j k
+pub fails_here : (nested : NestedParts) (slots after : List Slot) (pipe : PipeParts) (j k : ℕ) → pipe_model nested slots ≡ pipe → IsKept nested slots →
+    IsMarked pipe j k Out ⊎ IsDue pipe j k → after ≡ changed_where (follows (phases_in nested) j k) failed_slot 0 slots → FailsFrom (pipe_model nested after) j k
 fails_here nested slots after pipe j k e kept open_one is i h mark member phase here =
     let n = phases_in nested in
     let marks = map mark_of slots in
     let P : PipeParts → Type 0 = λ p. IsMarked p j k Out ⊎ IsDue p j k in
-    let told : map mark_of after ≡ changed_where (follows n j k) failed_mark 0 marks = ap (map mark_of) is ∙ told_failed slots (follows n j k) in
+    let told : map mark_of after ≡ changed_where (follows n j k) failed_mark 0 marks = ap (map mark_of) is ∙ failed_model slots (follows n j k) in
     fails_from n marks j k kept.order (subst P (sym e) open_one) i h mark member phase (subst (λ ms. IsAt n ms i h mark) told here)
 
 -- A job that is handed out names the member and the phase that are due.

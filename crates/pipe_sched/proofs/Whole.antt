@@ -38,7 +38,7 @@ use Rattle.pipe_sched.specs.declared.slot.Slot.TheVariants as slot
 use Rattle.pipe_sched.specs.Slots.{Mark, Waiting, Barred, Out, Filled, Lost, PipeParts, phases_in, members_in, IsAt, is_settled, is_failed, IsFull, HasFailed}
 use Rattle.pipe_sched.specs.Pipes.{piped_writes, piped_store, IsJobAt, IsUncrossed}
 use Rattle.pipe_sched.specs.Inside.{mark_of, IsRight, IsKept, written_in, column, columns}
-use Rattle.pipe_sched.proofs.Kept.{told_pipe}
+use Rattle.pipe_sched.proofs.Kept.{pipe_model}
 use Rattle.pipe_sched.proofs.Merges.{concat_one_more}
 use Rattle.pipe_sched.proofs.Writes.{round_is, columns_are}
 
@@ -188,7 +188,7 @@ settled_is_filled Out settled fine = absurd (cc)
 settled_is_filled Filled settled fine = refl
 settled_is_filled Lost settled fine = absurd (fine refl)
 
-all_filled : (nested : NestedParts) (slots : List Slot) → IsKept nested slots → IsFull (told_pipe nested slots) → (HasFailed (told_pipe nested slots) → ⊥) →
+all_filled : (nested : NestedParts) (slots : List Slot) → IsKept nested slots → IsFull (pipe_model nested slots) → (HasFailed (pipe_model nested slots) → ⊥) →
     (j k : ℕ) → j < members_in nested → k < phases_in nested → IsAt (phases_in nested) (map mark_of slots) j k Filled
 all_filled nested slots kept full fine j k member phase =
     let n = phases_in nested in
@@ -205,7 +205,7 @@ all_filled nested slots kept full fine j k member phase =
 
 -- The writes of all pieces, merged in the order of phases, are the construct's writes.
 pub all_written : (nested : NestedParts) (slots : List Slot) (store : Trace) → IsKept nested slots →
-    IsFull (told_pipe nested slots) → (HasFailed (told_pipe nested slots) → ⊥) →
+    IsFull (pipe_model nested slots) → (HasFailed (pipe_model nested slots) → ⊥) →
     store ≡ noted_all (concat (concat (columns (phases_in nested) slots (members_in nested) (phases_in nested)))) (fresh nested.store) →
     IsUncrossed (nested_of nested) → last_writes (marked store) ≡ nested_writes (nested_of nested)
 all_written nested slots store kept full fine is clear =
@@ -232,11 +232,11 @@ merged_size ws start first last e is =
     ap (λ t. length t.cells) is ∙ ap length (cells_after ws first) ∙ length_after ws first.cells ∙ ap (λ t. length t.cells) e
 
 -- Merging the slots' writes gives the construct's writes.
-pub all_told : (nested : NestedParts) (slots : List Slot) (pipe : PipeParts) (given : List Slot) (m p : ℕ) (first last : Trace) → told_pipe nested slots ≡ pipe →
+pub all_in_model : (nested : NestedParts) (slots : List Slot) (pipe : PipeParts) (given : List Slot) (m p : ℕ) (first last : Trace) → pipe_model nested slots ≡ pipe →
     IsKept nested slots → IsFull pipe → (HasFailed pipe → ⊥) → given ≡ slots → m ≡ members_in nested → p ≡ phases_in nested → first ≡ fresh nested.store →
     last ≡ noted_all (concat (concat (columns p given m p))) first → IsUncrossed (nested_of pipe.nested) →
     last_writes (marked last) ≡ nested_writes (nested_of pipe.nested)
-all_told nested slots pipe given m p first last e kept full fine g members phases start merged clear =
+all_in_model nested slots pipe given m p first last e kept full fine g members phases start merged clear =
     let all : concat (concat (columns p given m p)) ≡ concat (concat (columns (phases_in nested) slots (members_in nested) (phases_in nested)))
     = ap (λ l. concat (concat (columns p l m p))) g
     ∙ ap (λ q. concat (concat (columns q slots m q))) phases

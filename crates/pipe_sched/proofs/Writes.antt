@@ -24,7 +24,7 @@ use Rattle.pipe_sched.specs.declared.slot.Slot.TheVariants as slot
 use Rattle.pipe_sched.specs.Slots.{Filled, PipeParts, phases_in, IsAt, IsClear}
 use Rattle.pipe_sched.specs.Pipes.{piped_writes, piped_store, IsJobAt}
 use Rattle.pipe_sched.specs.Inside.{mark_of, IsRight, IsKept, written_in, column, columns}
-use Rattle.pipe_sched.proofs.Kept.{told_pipe, held_at}
+use Rattle.pipe_sched.proofs.Kept.{pipe_model, held_at}
 
 -- ---- the writes of a piece in a pipeline
 
@@ -153,12 +153,12 @@ one_of_jobs jobs trees j i own job same e less is copied =
     ∙ ap (λ j. Some (job_of j)) (sym copied)
 
 -- Merging the slots' writes gives the store that a piece starts from.
-pub store_is_told : (nested : NestedParts) (slots : List Slot) (pipe : PipeParts) (j k : ℕ) (one two : List Slot) (p below earlier : ℕ) (first mid last : Trace) →
-    told_pipe nested slots ≡ pipe → IsKept nested slots → k < phases_in nested → IsClear (phases_in nested) (map mark_of slots) j k →
+pub store_is_in_model : (nested : NestedParts) (slots : List Slot) (pipe : PipeParts) (j k : ℕ) (one two : List Slot) (p below earlier : ℕ) (first mid last : Trace) →
+    pipe_model nested slots ≡ pipe → IsKept nested slots → k < phases_in nested → IsClear (phases_in nested) (map mark_of slots) j k →
     one ≡ slots → two ≡ slots → p ≡ phases_in nested → below ≡ j → earlier ≡ k → first ≡ fresh nested.store →
     mid ≡ noted_all (concat (concat (columns p one (below + 1) earlier))) first → last ≡ noted_all (concat (column p two earlier below)) mid →
     last.cells ≡ piped_store (nested_of pipe.nested) j k
-store_is_told nested slots pipe j k one two p below earlier first mid last e kept less clear same_one same_two n b h start merged own =
+store_is_in_model nested slots pipe j k one two p below earlier first mid last e kept less clear same_one same_two n b h start merged own =
     let front : concat (concat (columns p one (below + 1) earlier)) ≡ concat (concat (columns (phases_in nested) slots (suc j) k))
     = ap (λ l. concat (concat (columns p l (below + 1) earlier))) same_one
     ∙ ap (λ q. concat (concat (columns q slots (below + 1) earlier))) n
@@ -176,10 +176,10 @@ store_is_told nested slots pipe j k one two p below earlier first mid last e kep
     ap (λ t. t.cells) whole ∙ store_is nested slots j k kept less clear
     ∙ ap (λ (t : PipeParts). piped_store (nested_of t.nested) j k) e
 
-pub job_is_told : (nested : NestedParts) (slots : List Slot) (pipe : PipeParts) (j k : ℕ) (store : Store) (job : JobParts) → told_pipe nested slots ≡ pipe →
+pub job_is_in_model : (nested : NestedParts) (slots : List Slot) (pipe : PipeParts) (j k : ℕ) (store : Store) (job : JobParts) → pipe_model nested slots ≡ pipe →
     store ≡ piped_store (nested_of pipe.nested) j k → slice_get (jobs_in (nested_of nested) k store) j ≡ Some (job_of job) →
     IsJobAt (nested_of pipe.nested) j k (job_of job)
-job_is_told nested slots pipe j k store job e start own =
+job_is_in_model nested slots pipe j k store job e start own =
     ap (λ s. slice_get (jobs_in (nested_of pipe.nested) k s) j) (sym start)
     ∙ ap (λ (p : PipeParts). slice_get (jobs_in (nested_of p.nested) k store) j) (sym e)
     ∙ own

@@ -95,14 +95,14 @@ fn a_member_that_reads_what_a_higher_one_wrote_crosses_it(rt: HostRuntime) -> Re
 }
 
 #[test]
-fn one_crossing_in_the_last_phase_is_told(rt: HostRuntime) -> Result<(), Fail> {
+fn one_crossing_in_the_last_phase_is_found(rt: HostRuntime) -> Result<(), Fail> {
     let fault = PipeFault::Crossing { line: 3, cell: 2 };
     assert_eq!(rt; checked(rt.alloc(), CROSSED_LAST)?, Err(fault));
     Ok(())
 }
 
 #[test]
-fn a_construct_tells_whether_its_pieces_cross(rt: HostRuntime) -> Result<(), Fail> {
+fn a_construct_finds_whether_its_pieces_cross(rt: HostRuntime) -> Result<(), Fail> {
     assert!(rt; is_clear(rt.alloc(), TWO_STEPS)?);
     assert!(rt; !is_clear(rt.alloc(), TWO_PHASES)?);
     assert!(rt; is_clear(rt.alloc(), TWO_BRANCHES)?);

@@ -4,7 +4,7 @@ use crate::samples::{BOTH_STEPS, TWO_STEPS};
 use array_jobs::Job;
 use array_tree::Program;
 use pipe_sched::{PipeHand, SharedPipe};
-use sample_programs::{Came, TOLD, first_jobs, outcome_of, parsed, piece_at, tells};
+use sample_programs::{Came, TOLD, first_jobs, outcome_of, parsed, piece_at, receipts};
 use sched_api::Scheduler;
 use std::alloc::Global;
 use std::sync::Wait;
@@ -22,7 +22,7 @@ enum Look {
     Order,
     Once,
     Nothing,
-    Tells,
+    Receipts,
 }
 
 // Whether this holds of a hand, beside the jobs of the first phase.
@@ -38,7 +38,7 @@ fn holds_of<'a, 'p, R: Wait + 'a>(
         Look::Order => overtakes(rt, hand, alloc, jobs),
         Look::Once => Ok(is_handed_out_once(rt, hand)),
         Look::Nothing => leaves_nothing(rt, hand, alloc, jobs),
-        Look::Tells => Ok(tells_all(rt, hand)),
+        Look::Receipts => Ok(returns_all_receipts(rt, hand)),
     }
 }
 
@@ -145,7 +145,7 @@ fn overtakes<'a, 'p, R: Wait + 'a>(
 }
 
 #[test]
-fn a_hand_answers_as_the_pipe_does(rt: HostRuntime) -> Result<(), Fail> {
+fn a_hand_returns_what_the_pipe_returns(rt: HostRuntime) -> Result<(), Fail> {
     assert!(rt; holds(&rt, rt.alloc(), Look::Order)?);
     Ok(())
 }
@@ -222,16 +222,16 @@ fn nothing_is_left_of_a_pipe_that_is_handed_out(rt: HostRuntime) -> Result<(), F
 }
 
 // Whether a hand returns its site, and receipts with each call that a scheduler gets, before and after its pipe is handed out.
-fn tells_all<'a, 'p, R: Wait + 'a>(rt: &'a R, hand: &mut PipeHand<'a, 'p, R>) -> bool {
+fn returns_all_receipts<'a, 'p, R: Wait + 'a>(rt: &'a R, hand: &mut PipeHand<'a, 'p, R>) -> bool {
     let shape = (hand.site(), hand.shared.nested().members()) == (1, 3);
-    let before = tells(hand, rt) == TOLD;
+    let before = receipts(hand, rt) == TOLD;
     let out = hands_out_failed(rt, hand);
-    let after = tells(hand, rt) == TOLD;
+    let after = receipts(hand, rt) == TOLD;
     shape && before && out && after
 }
 
 #[test]
-fn a_hand_tells_what_it_hears(rt: HostRuntime) -> Result<(), Fail> {
-    assert!(rt; holds(&rt, rt.alloc(), Look::Tells)?);
+fn a_hand_returns_a_receipt_of_each_call(rt: HostRuntime) -> Result<(), Fail> {
+    assert!(rt; holds(&rt, rt.alloc(), Look::Receipts)?);
     Ok(())
 }

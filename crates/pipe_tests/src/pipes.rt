@@ -2,7 +2,7 @@
 use crate::harts::{Answer, finds, gives, kept, next_piece, pipe_of, puts_back};
 use crate::samples::{BOTH_STEPS, TWO_STEPS};
 use pipe_sched::Pipe;
-use sample_programs::{Came, TOLD, first_jobs, outcome_of, parsed, piece_at, tells};
+use sample_programs::{Came, TOLD, first_jobs, outcome_of, parsed, piece_at, receipts};
 use sched_api::Scheduler;
 use std::alloc::Global;
 use std::test::Fail;
@@ -87,11 +87,11 @@ fn a_pipe_keeps_a_piece_once(rt: HostRuntime) -> Result<(), Fail> {
 }
 
 #[test]
-fn a_pipe_tells_what_it_hears(rt: HostRuntime) -> Result<(), Fail> {
+fn a_pipe_returns_a_receipt_of_each_call(rt: HostRuntime) -> Result<(), Fail> {
     let program = parsed(rt.alloc(), TWO_STEPS)?;
     let mut pipe = pipe_of(rt.alloc(), &program)?;
     assert!(rt; pipe.site() == 1);
     assert!(rt; pipe.nested().members() == 3);
-    assert!(rt; tells(&mut pipe, ()) == TOLD);
+    assert!(rt; receipts(&mut pipe, ()) == TOLD);
     Ok(())
 }

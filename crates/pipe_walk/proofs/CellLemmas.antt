@@ -7,7 +7,7 @@ use Rattle.std.proofs.lemmas.List.{length-replicate, get_or-set_same, get_or-set
 use mathlib.Core.Logic.{dite}
 use native.Mathlib.Decide.{ℕ_discrete}
 use Rattle.pipe_walk.specs.declared.members.Members.{Members}
-use Rattle.pipe_walk.specs.declared.members.Members.TheVariants.{Nobody, Between}
+use Rattle.pipe_walk.specs.declared.members.Members.TheVariants.{NoMember, Between}
 use Rattle.pipe_walk.specs.declared.touch.Touch.{Touch}
 use Rattle.pipe_walk.specs.declared.past.Past.{Past}
 use Rattle.pipe_walk.specs.Inside.Members.{joined_members, joined, untouched, touch_in}
@@ -87,13 +87,13 @@ none_left (first ∷ more) (suc i) cell h = none_left more i cell (omega arith)
 
 -- ---- touches and pasts
 
-no_more_members : (m : Members) → joined_members m Nobody ≡ m
-no_more_members Nobody = refl
+no_more_members : (m : Members) → joined_members m NoMember ≡ m
+no_more_members NoMember = refl
 no_more_members (Between first last) = refl
 
 pub no_more_touch : (t : Touch) → joined t untouched ≡ t
 no_more_touch t =
-    ap (λ r. joined_touch r (joined_members t.changed Nobody)) (no_more_members t.read) ∙ ap (joined_touch t.read) (no_more_members t.changed)
+    ap (λ r. joined_touch r (joined_members t.changed NoMember)) (no_more_members t.read) ∙ ap (joined_touch t.read) (no_more_members t.changed)
   where
     joined_touch : Members → Members → Touch
     joined_touch r c = record { read = r; changed = c }
@@ -124,14 +124,14 @@ passed_none p =
 pub cells_new : (n : ℕ) → AreCells (record { touches = replicate n untouched; past = replicate n no_past; listed = []; crossed = false })
 cells_new n = record {
   size = length-replicate n untouched ∙ sym (length-replicate n no_past);
-  told = λ clear cell. ap (λ (p : Past). p.crossed) (anywhere n no_past cell);
+  noted = λ clear cell. ap (λ (p : Past). p.crossed) (anywhere n no_past cell);
 }
 
 -- of all cells that were cleared
 pub cells_cleared : (c : CellParts) → AreCells c → AreCells (blank_cells c)
 cells_cleared c is = record {
   size = length-replicate (length c.touches) untouched ∙ is.size ∙ sym (length-replicate (length c.past) no_past);
-  told = λ clear cell. ap (λ (p : Past). p.crossed) (anywhere (length c.past) no_past cell);
+  noted = λ clear cell. ap (λ (p : Past). p.crossed) (anywhere (length c.past) no_past cell);
 }
 
 or_parts : (a b : Bool) → (a || b) ≡ false → (a ≡ false) × (b ≡ false)
@@ -142,23 +142,23 @@ or_parts false b e = (refl, e)
 pub cells_passed : (c : CellParts) (i : ℕ) (p : Past) → AreCells c → AreCells (record c { past = slice_set c.past i p; crossed = c.crossed || p.crossed })
 cells_passed c i p is = record {
   size = is.size ∙ sym (length-set c.past i p);
-  told = λ clear cell. let both = or_parts c.crossed p.crossed clear in
-      set_keeps (λ (q : Past). q.crossed ≡ false) c.past i cell p no_past both.1 (is.told both.0 cell);
+  noted = λ clear cell. let both = or_parts c.crossed p.crossed clear in
+      set_keeps (λ (q : Past). q.crossed ≡ false) c.past i cell p no_past both.1 (is.noted both.0 cell);
 }
 
 -- of cells where one has another touch
 pub cells_touched : (c : CellParts) (i : ℕ) (t : Touch) (listed : List ℕ) → AreCells c → AreCells (record c { touches = slice_set c.touches i t; listed = listed })
-cells_touched c i t listed is = record { size = length-set c.touches i t ∙ is.size; told = is.told }
+cells_touched c i t listed is = record { size = length-set c.touches i t ∙ is.size; noted = is.noted }
 
 -- of cells without a touch
 pub cells_untouched : (c : CellParts) → AreCells c → AreCells (record c { touches = replicate (length c.touches) untouched })
-cells_untouched c is = record { size = length-replicate (length c.touches) untouched ∙ is.size; told = is.told }
+cells_untouched c is = record { size = length-replicate (length c.touches) untouched ∙ is.size; noted = is.noted }
 
 -- and of cells where one has no past
 pub cells_fresh : (c : CellParts) (i j : ℕ) (t : Touch) → AreCells c → AreCells (record c { touches = slice_set c.touches j t; past = slice_set c.past i no_past })
 cells_fresh c i j t is = record {
   size = length-set c.touches j t ∙ is.size ∙ sym (length-set c.past i no_past);
-  told = λ clear cell. set_keeps (λ (q : Past). q.crossed ≡ false) c.past i cell no_past no_past refl (is.told clear cell);
+  noted = λ clear cell. set_keeps (λ (q : Past). q.crossed ≡ false) c.past i cell no_past no_past refl (is.noted clear cell);
 }
 
 -- ---- one more touch

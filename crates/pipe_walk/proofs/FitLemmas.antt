@@ -148,16 +148,16 @@ nest_sized nested fit phases members =
 
 -- ---- what the least crossing shows
 
-pub clear_told : (arrays : Arrays) (rounds : List (List Steps)) → IsTouchedBelow arrays (cells_of arrays) rounds → (found : Option ℕ) →
+pub clear_noted : (arrays : Arrays) (rounds : List (List Steps)) → IsTouchedBelow arrays (cells_of arrays) rounds → (found : Option ℕ) →
     found ≡ crossing arrays (cells_of arrays) rounds → IsLeastCrossing arrays rounds found
-clear_told arrays rounds below found e = subst (IsLeastCrossing arrays rounds) (sym e) (least_crossing arrays (cells_of arrays) rounds below)
+clear_noted arrays rounds below found e = subst (IsLeastCrossing arrays rounds) (sym e) (least_crossing arrays (cells_of arrays) rounds below)
 
-pub none_told : (arrays : Arrays) (rounds : List (List Steps)) (found : Option ℕ) (clear : Bool) → is_some found ≡ not clear → IsLeastCrossing arrays rounds found →
+pub none_noted : (arrays : Arrays) (rounds : List (List Steps)) (found : Option ℕ) (clear : Bool) → is_some found ≡ not clear → IsLeastCrossing arrays rounds found →
     (IsTrue clear) ↔ HasNoCrossing arrays rounds
-none_told arrays rounds None true e h = (λ t. h, λ k. refl)
-none_told arrays rounds None false e h = absurd (false≢true e)
-none_told arrays rounds (Some cell) true e h = absurd (false≢true (sym e))
-none_told arrays rounds (Some cell) false e h = (λ t. absurd (false≢true t), λ k. absurd (k cell h.0))
+none_noted arrays rounds None true e h = (λ t. h, λ k. refl)
+none_noted arrays rounds None false e h = absurd (false≢true e)
+none_noted arrays rounds (Some cell) true e h = absurd (false≢true (sym e))
+none_noted arrays rounds (Some cell) false e h = (λ t. absurd (false≢true t), λ k. absurd (k cell h.0))
 
 -- Pieces of one phase don't cross.
 pub few_rounds : (arrays : Arrays) (construct : Statement) (vars : Vars) → phases_of construct ≤ 1 →
@@ -220,16 +220,16 @@ record IsFirst (arrays : Arrays) (sites : List Site) (line cell : ℕ) : Type 0 
   pub number : ℕ
   pub site : Site
   pub here : slice_get sites number ≡ Some site
-  pub told : line ≡ site.line
+  pub noted : line ≡ site.line
   pub crosses : IsCrossing arrays site.rounds cell
   pub least : (c : ℕ) → c < cell → ¬ IsCrossing arrays site.rounds c
   pub earlier : (i : ℕ) (s : Site) → i < number → slice_get sites i ≡ Some s → HasNoCrossing arrays s.rounds
 
 -- the result for these sites
-abbrev IsTold : Arrays → List Site → Option PipeFault → Type 0
-IsTold arrays sites None = (i : ℕ) (s : Site) → slice_get sites i ≡ Some s → HasNoCrossing arrays s.rounds
-IsTold arrays sites (Some (Crossing line cell)) = IsFirst arrays sites line cell
-IsTold arrays sites (Some Memory) = ⊥
+abbrev IsNoted : Arrays → List Site → Option PipeFault → Type 0
+IsNoted arrays sites None = (i : ℕ) (s : Site) → slice_get sites i ≡ Some s → HasNoCrossing arrays s.rounds
+IsNoted arrays sites (Some (Crossing line cell)) = IsFirst arrays sites line cell
+IsNoted arrays sites (Some Memory) = ⊥
 
 next_none : (arrays : Arrays) (site : Site) (more : List Site) → HasNoCrossing arrays site.rounds →
     ((i : ℕ) (s : Site) → slice_get more i ≡ Some s → HasNoCrossing arrays s.rounds) →
@@ -237,14 +237,14 @@ next_none : (arrays : Arrays) (site : Site) (more : List Site) → HasNoCrossing
 next_none arrays site more clear h zero s e = let same : site ≡ s = cc in subst (λ (x : Site). HasNoCrossing arrays x.rounds) same clear
 next_none arrays site more clear h (suc i) s e = h i s e
 
-next_told : (arrays : Arrays) (site : Site) (more : List Site) → HasNoCrossing arrays site.rounds → (fault : Option PipeFault) →
-    IsTold arrays more fault → IsTold arrays (site ∷ more) fault
-next_told arrays site more clear None h = next_none arrays site more clear h
-next_told arrays site more clear (Some (Crossing line cell)) h = record {
+next_noted : (arrays : Arrays) (site : Site) (more : List Site) → HasNoCrossing arrays site.rounds → (fault : Option PipeFault) →
+    IsNoted arrays more fault → IsNoted arrays (site ∷ more) fault
+next_noted arrays site more clear None h = next_none arrays site more clear h
+next_noted arrays site more clear (Some (Crossing line cell)) h = record {
   number = suc h.number;
   site = h.site;
   here = h.here;
-  told = h.told;
+  noted = h.noted;
   crosses = h.crosses;
   least = h.least;
   earlier = λ i s less e. before i s less e;
@@ -253,51 +253,51 @@ next_told arrays site more clear (Some (Crossing line cell)) h = record {
     before : (i : ℕ) (s : Site) → i < suc h.number → slice_get (site ∷ more) i ≡ Some s → HasNoCrossing arrays s.rounds
     before zero s less e = let same : site ≡ s = cc in subst (λ (x : Site). HasNoCrossing arrays x.rounds) same clear
     before (suc i) s less e = h.earlier i s (omega arith) e
-next_told arrays site more clear (Some Memory) h = h
+next_noted arrays site more clear (Some Memory) h = h
 
-sites_told : (arrays : Arrays) (sites : List Site) → EachSite arrays sites → IsTold arrays sites (first_crossing arrays sites)
-sites_told arrays [] h = λ i s e. absurd (cc)
-sites_told arrays (site ∷ more) h =
-    cases (crossing arrays (cells_of arrays) site.rounds) (least_crossing arrays (cells_of arrays) site.rounds (rounds_within arrays site.rounds h.0)) (sites_told arrays more h.1)
+sites_noted : (arrays : Arrays) (sites : List Site) → EachSite arrays sites → IsNoted arrays sites (first_crossing arrays sites)
+sites_noted arrays [] h = λ i s e. absurd (cc)
+sites_noted arrays (site ∷ more) h =
+    cases (crossing arrays (cells_of arrays) site.rounds) (least_crossing arrays (cells_of arrays) site.rounds (rounds_within arrays site.rounds h.0)) (sites_noted arrays more h.1)
   where
-    cases : (found : Option ℕ) → IsLeastCrossing arrays site.rounds found → IsTold arrays more (first_crossing arrays more) →
-        IsTold arrays (site ∷ more) (option_or (option_map (Crossing site.line) found) (first_crossing arrays more))
-    cases None clear rest = next_told arrays site more clear (first_crossing arrays more) rest
+    cases : (found : Option ℕ) → IsLeastCrossing arrays site.rounds found → IsNoted arrays more (first_crossing arrays more) →
+        IsNoted arrays (site ∷ more) (option_or (option_map (Crossing site.line) found) (first_crossing arrays more))
+    cases None clear rest = next_noted arrays site more clear (first_crossing arrays more) rest
     cases (Some cell) least rest = record {
       number = 0;
       site = site;
       here = refl;
-      told = refl;
+      noted = refl;
       crosses = least.0;
       least = least.1;
       earlier = λ i s less e. absurd (omega arith);
     }
 
 -- The first crossing of an accepted program.
-program_told : (program : ProgramTree) → IsAccepted program →
-    IsTold (arrays_of program.arrays) (sequence_sites program.body []) (first_crossing (arrays_of program.arrays) (sequence_sites program.body []))
-program_told program accepted =
+program_noted : (program : ProgramTree) → IsAccepted program →
+    IsNoted (arrays_of program.arrays) (sequence_sites program.body []) (first_crossing (arrays_of program.arrays) (sequence_sites program.body []))
+program_noted program accepted =
     let arrays = arrays_of program.arrays in
     let visits = walk arrays (sequence_work program.body []) in
     let named : are_known (names_in arrays) visits ≡ true =
     ap (λ names. are_known names visits) (names_in_of program.arrays) ∙ sequence_known arrays (names_of program.arrays) program.body [] [] accepted.known_names in
-    sites_told arrays (sequence_sites program.body []) (of_sequence arrays (IsVisitWithin arrays) program.body [] (visits_within arrays visits named accepted.indices))
+    sites_noted arrays (sequence_sites program.body []) (of_sequence arrays (IsVisitWithin arrays) program.body [] (visits_within arrays visits named accepted.indices))
 
 pub none_crosses : (program : ProgramTree) → IsAccepted program → first_crossing (arrays_of program.arrays) (sequence_sites program.body []) ≡ None → HasNoCrossings program
 none_crosses program accepted e =
-    subst (IsTold (arrays_of program.arrays) (sequence_sites program.body [])) e (program_told program accepted)
+    subst (IsNoted (arrays_of program.arrays) (sequence_sites program.body [])) e (program_noted program accepted)
 
-pub fault_told : (program : ProgramTree) → IsAccepted program → (fault : PipeFault) →
+pub fault_noted : (program : ProgramTree) → IsAccepted program → (fault : PipeFault) →
     first_crossing (arrays_of program.arrays) (sequence_sites program.body []) ≡ Some fault → IsFaultOf program fault
-fault_told program accepted fault e =
-    cases fault (subst (IsTold (arrays_of program.arrays) (sequence_sites program.body [])) e (program_told program accepted))
+fault_noted program accepted fault e =
+    cases fault (subst (IsNoted (arrays_of program.arrays) (sequence_sites program.body [])) e (program_noted program accepted))
   where
-    cases : (fault : PipeFault) → IsTold (arrays_of program.arrays) (sequence_sites program.body []) (Some fault) → IsFaultOf program fault
+    cases : (fault : PipeFault) → IsNoted (arrays_of program.arrays) (sequence_sites program.body []) (Some fault) → IsFaultOf program fault
     cases (Crossing line cell) h = record {
       number = h.number;
       site = h.site;
       here = h.here;
-      told = h.told;
+      noted = h.noted;
       crosses = h.crosses;
       least = h.least;
       earlier = h.earlier;

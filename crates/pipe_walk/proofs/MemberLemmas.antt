@@ -5,7 +5,7 @@ use Rattle.std.proofs.lemmas.Bool.Decides.{nat_tests}
 use Rattle.array_meaning.specs.Steps.{Steps}
 use Rattle.phase_order.specs.Tests.{some_of, highest}
 use Rattle.pipe_walk.specs.declared.members.Members.{Members}
-use Rattle.pipe_walk.specs.declared.members.Members.TheVariants.{Nobody, Between}
+use Rattle.pipe_walk.specs.declared.members.Members.TheVariants.{NoMember, Between}
 use Rattle.pipe_walk.specs.Inside.Members.{joined_members, starts_below, last_of}
 
 -- ---- sets of members
@@ -14,21 +14,21 @@ both : (a b c d : ℕ) → a ≡ c → b ≡ d → Between a b ≡ Between c d
 both a b c d e f = cc
 
 pub members_assoc : (a b c : Members) → joined_members (joined_members a b) c ≡ joined_members a (joined_members b c)
-members_assoc Nobody b c = refl
-members_assoc (Between f l) Nobody c = refl
-members_assoc (Between f l) (Between g m) Nobody = refl
+members_assoc NoMember b c = refl
+members_assoc (Between f l) NoMember c = refl
+members_assoc (Between f l) (Between g m) NoMember = refl
 members_assoc (Between f l) (Between g m) (Between h n) = both _ _ _ _ (omega arith) (omega arith)
 
 pub members_turned : (a b c : Members) → joined_members a (joined_members b c) ≡ joined_members b (joined_members a c)
-members_turned Nobody Nobody c = refl
-members_turned Nobody (Between g m) c = refl
-members_turned (Between f l) Nobody c = refl
-members_turned (Between f l) (Between g m) Nobody = both _ _ _ _ (omega arith) (omega arith)
+members_turned NoMember NoMember c = refl
+members_turned NoMember (Between g m) c = refl
+members_turned (Between f l) NoMember c = refl
+members_turned (Between f l) (Between g m) NoMember = both _ _ _ _ (omega arith) (omega arith)
 members_turned (Between f l) (Between g m) (Between h n) = both _ _ _ _ (omega arith) (omega arith)
 
 pub members_again : (a b : Members) → joined_members a (joined_members a b) ≡ joined_members a b
-members_again Nobody b = refl
-members_again (Between f l) Nobody = both _ _ _ _ (omega arith) (omega arith)
+members_again NoMember b = refl
+members_again (Between f l) NoMember = both _ _ _ _ (omega arith) (omega arith)
 members_again (Between f l) (Between g m) = both _ _ _ _ (omega arith) (omega arith)
 
 -- the set with a member, if there is one
@@ -38,7 +38,7 @@ member_if false j m = m
 
 pub below_one : (n : ℕ) (b : Bool) (j : ℕ) (m : Members) → starts_below n (member_if b j m) ≡ ((b && nat_lt j n) || starts_below n m)
 below_one n false j m = refl
-below_one n true j Nobody = grind (arith, nat_tests)
+below_one n true j NoMember = grind (arith, nat_tests)
 below_one n true j (Between f l) = cases (nat_lt j n) (nat_lt f n) refl refl
   where
     cases : (x y : Bool) → nat_lt j n ≡ x → nat_lt f n ≡ y → nat_lt (min j f) n ≡ (x || y)
@@ -48,7 +48,7 @@ below_one n true j (Between f l) = cases (nat_lt j n) (nat_lt f n) refl refl
 
 pub last_one : (b : Bool) (j : ℕ) (m : Members) → last_of (member_if b j m) ≡ max (last_of m) (if b then j else 0)
 last_one false j m = omega arith
-last_one true j Nobody = omega arith
+last_one true j NoMember = omega arith
 last_one true j (Between f l) = omega arith
 
 -- ---- the marks of pieces that are numbered from one on

@@ -14,31 +14,31 @@ use Rattle.array_meaning.specs.Overlap.{first_from}
 use Rattle.array_meaning.specs.Sites.{phase_rounds}
 use Rattle.site_walk.proofs.PieceLemmas.{first_none}
 use Rattle.phase_order.specs.Tests.{is_changed, is_read, is_touched, some_of, highest, crosses, crossing}
-use Rattle.pipe_walk.specs.declared.members.Members.TheVariants.{Nobody}
+use Rattle.pipe_walk.specs.declared.members.Members.TheVariants.{NoMember}
 use Rattle.pipe_walk.specs.declared.touch.Touch.{Touch}
 use Rattle.pipe_walk.specs.declared.past.Past.{Past}
 use Rattle.pipe_walk.specs.Inside.Members.{joined, untouched, touch_in, starts_below, last_of}
 use Rattle.pipe_walk.specs.Inside.Tables.{TableParts, no_past, passed, past_in, touch_at, cleared, IsFor, IsSettled}
 use Rattle.pipe_walk.specs.Inside.Marks.{with_pieces}
 use Rattle.pipe_walk.proofs.MemberLemmas.{members_in, members_below, members_last, none_highest, either_highest}
-use Rattle.pipe_walk.proofs.PieceLemmas.{told, touch_with_pieces, pieces_stay_for, pieces_keep_past}
+use Rattle.pipe_walk.proofs.PieceLemmas.{noted, touch_with_pieces, pieces_stay_for, pieces_keep_past}
 use Rattle.pipe_walk.proofs.CellLemmas.{anywhere}
 
 -- ---- one phase
 
 -- the marks of a cell by the pieces of a phase
 abbrev pub touch_of : Arrays → ℕ → List Steps → Touch
-touch_of arrays cell round = told (members_in (is_read arrays cell) 0 round Nobody) (members_in (is_changed arrays cell) 0 round Nobody)
+touch_of arrays cell round = noted (members_in (is_read arrays cell) 0 round NoMember) (members_in (is_changed arrays cell) 0 round NoMember)
 
 abbrev made : ℕ → ℕ → Bool → Past
 made toucher changer crossed = record { toucher = toucher; changer = changer; crossed = crossed }
 
-last_is : (test : Steps → Bool) (round : List Steps) → last_of (members_in test 0 round Nobody) ≡ highest test round
+last_is : (test : Steps → Bool) (round : List Steps) → last_of (members_in test 0 round NoMember) ≡ highest test round
 last_is test round =
-    members_last test 0 round Nobody ∙ ap (max 0) (none_highest test round) ∙ (let e : max 0 (highest test round) ≡ highest test round = omega arith in e)
+    members_last test 0 round NoMember ∙ ap (max 0) (none_highest test round) ∙ (let e : max 0 (highest test round) ≡ highest test round = omega arith in e)
 
-below_is : (test : Steps → Bool) (n : ℕ) (round : List Steps) → starts_below n (members_in test 0 round Nobody) ≡ some_of test (take n round)
-below_is test n round = members_below test n 0 n round Nobody (omega arith)
+below_is : (test : Steps → Bool) (n : ℕ) (round : List Steps) → starts_below n (members_in test 0 round NoMember) ≡ some_of test (take n round)
+below_is test n round = members_below test n 0 n round NoMember (omega arith)
 
 passed_is : (arrays : Arrays) (cell : ℕ) (past : Past) (round : List Steps) →
     passed past (touch_of arrays cell round)
@@ -77,7 +77,7 @@ phase_left arrays cell past round more =
 pub record IsThrough (arrays : Arrays) (all left : List (List Steps)) (table : TableParts) : Type 0 where
   pub for_them : IsFor arrays table
   pub blank : (c : ℕ) → touch_at table c ≡ untouched
-  pub tells : (c : ℕ) → c < cells_of arrays → crossed_left arrays c (past_in table.past c) left ≡ crosses arrays c 0 0 all
+  pub notes : (c : ℕ) → c < cells_of arrays → crossed_left arrays c (past_in table.past c) left ≡ crosses arrays c 0 0 all
 
 pub cleared_for : (arrays : Arrays) (t : TableParts) → IsFor arrays t → IsFor arrays (cleared t)
 cleared_for arrays t for_them = record {
@@ -98,7 +98,7 @@ pub none_through : (arrays : Arrays) (all : List (List Steps)) (t : TableParts) 
 none_through arrays all t for_them = record {
   for_them = cleared_for arrays t for_them;
   blank = λ c. blank_at (cleared t) (length t.cells) (length t.everywhere) c refl refl;
-  tells = λ c small. ap (λ (p : Past). crossed_left arrays c p all) (anywhere (length t.past) no_past c);
+  notes = λ c small. ap (λ (p : Past). crossed_left arrays c p all) (anywhere (length t.past) no_past c);
 }
 
 pub one_through : (arrays : Arrays) (all : List (List Steps)) (round : List Steps) (more : List (List Steps)) (t after : TableParts) →
@@ -114,20 +114,20 @@ one_through arrays all round more t after through settled =
         owners = settled.owners ∙ for_marked.owners;
       };
       blank = λ c. blank_at after (length marked.cells) (length marked.everywhere) c settled.cells settled.everywhere;
-      tells = λ c small.
+      notes = λ c small.
           let there : c < length marked.past = (let e = for_marked.past in omega arith) in
           ap (λ (p : Past). crossed_left arrays c p more)
           (settled.past c there
           ∙ ap (λ past. passed (past_in past c) (touch_at marked c)) (pieces_keep_past arrays 0 round t)
           ∙ ap (passed (past_in t.past c)) (touch_with_pieces arrays 0 round t c through.for_them small
-          ∙ ap (λ (s : Touch). told (members_in (is_read arrays c) 0 round s.read) (members_in (is_changed arrays c) 0 round s.changed)) (through.blank c)))
+          ∙ ap (λ (s : Touch). noted (members_in (is_read arrays c) 0 round s.read) (members_in (is_changed arrays c) 0 round s.changed)) (through.blank c)))
           ∙ phase_left arrays c (past_in t.past c) round more
-          ∙ through.tells c small;
+          ∙ through.notes c small;
     }
 
 pub all_through : (arrays : Arrays) (all : List (List Steps)) (t : TableParts) (c : ℕ) → IsThrough arrays all [] t → c < cells_of arrays →
     (past_in t.past c).crossed ≡ crosses arrays c 0 0 all
-all_through arrays all t c through small = none_more (past_in t.past c).crossed ∙ through.tells c small
+all_through arrays all t c through small = none_more (past_in t.past c).crossed ∙ through.notes c small
   where
     none_more : (b : Bool) → b ≡ (b || false)
     none_more true = refl

@@ -23,18 +23,18 @@ use Rattle.pipe_walk.proofs.OwnerLemmas.{owner_is}
 
 -- ---- the marks by members
 
-abbrev pub told : Members → Members → Touch
-told r w = record { read = r; changed = w }
+abbrev pub noted : Members → Members → Touch
+noted r w = record { read = r; changed = w }
 
 joined_assoc : (a b c : Touch) → joined (joined a b) c ≡ joined a (joined b c)
 joined_assoc a b c =
-    ap (λ r. told r (joined_members (joined_members a.changed b.changed) c.changed)) (members_assoc a.read b.read c.read)
-    ∙ ap (told (joined_members a.read (joined_members b.read c.read))) (members_assoc a.changed b.changed c.changed)
+    ap (λ r. noted r (joined_members (joined_members a.changed b.changed) c.changed)) (members_assoc a.read b.read c.read)
+    ∙ ap (noted (joined_members a.read (joined_members b.read c.read))) (members_assoc a.changed b.changed c.changed)
 
 joined_turned : (a b c : Touch) → joined a (joined b c) ≡ joined b (joined a c)
 joined_turned a b c =
-    ap (λ r. told r (joined_members a.changed (joined_members b.changed c.changed))) (members_turned a.read b.read c.read)
-    ∙ ap (told (joined_members b.read (joined_members a.read c.read))) (members_turned a.changed b.changed c.changed)
+    ap (λ r. noted r (joined_members a.changed (joined_members b.changed c.changed))) (members_turned a.read b.read c.read)
+    ∙ ap (noted (joined_members b.read (joined_members a.read c.read))) (members_turned a.changed b.changed c.changed)
 
 -- ---- lists
 
@@ -115,15 +115,15 @@ stays_for arrays j w name None t for_them =
 
 -- the marks after a piece that changes the cell, or reads it, or neither
 abbrev pub after_piece : ℕ → Bool → Bool → Touch → Touch
-after_piece j w r touch = told (member_if r j touch.read) (member_if w j touch.changed)
+after_piece j w r touch = noted (member_if r j touch.read) (member_if w j touch.changed)
 
 visit_first : (j : ℕ) (cov x w r : Bool) (s : Touch) →
     after_piece j w r (touch_if cov (touch_by j x) s) ≡ after_piece j ((x && cov) || w) ((not x && cov) || r) s
 visit_first j false true w r s = refl
 visit_first j false false w r s = refl
-visit_first j true true true r s = ap (told (member_if r j s.read)) (members_again (Between j j) s.changed)
+visit_first j true true true r s = ap (noted (member_if r j s.read)) (members_again (Between j j) s.changed)
 visit_first j true true false r s = refl
-visit_first j true false w true s = ap (λ m. told m (member_if w j s.changed)) (members_again (Between j j) s.read)
+visit_first j true false w true s = ap (λ m. noted m (member_if w j s.changed)) (members_again (Between j j) s.read)
 visit_first j true false w false s = refl
 
 pub touch_with_visits : (arrays : Arrays) (j : ℕ) (vs : List Visit) (t : TableParts) (c : ℕ) → IsFor arrays t → c < cells_of arrays →
@@ -151,11 +151,11 @@ visits_keep_past arrays j (v ∷ vs) t = visits_keep_past arrays j vs (with_touc
 
 pub touch_with_pieces : (arrays : Arrays) (j : ℕ) (ps : List Steps) (t : TableParts) (c : ℕ) → IsFor arrays t → c < cells_of arrays →
     touch_at (with_pieces arrays j ps t) c
-    ≡ told (members_in (is_read arrays c) j ps (touch_at t c).read) (members_in (is_changed arrays c) j ps (touch_at t c).changed)
+    ≡ noted (members_in (is_read arrays c) j ps (touch_at t c).read) (members_in (is_changed arrays c) j ps (touch_at t c).changed)
 touch_with_pieces arrays j [] t c for_them small = refl
 touch_with_pieces arrays j (p ∷ ps) t c for_them small =
     touch_with_pieces arrays (j + 1) ps (with_piece arrays j p t) c (visits_stay_for arrays j (walk arrays p) t for_them) small
-    ∙ ap (λ (s : Touch). told (members_in (is_read arrays c) (j + 1) ps s.read) (members_in (is_changed arrays c) (j + 1) ps s.changed))
+    ∙ ap (λ (s : Touch). noted (members_in (is_read arrays c) (j + 1) ps s.read) (members_in (is_changed arrays c) (j + 1) ps s.changed))
     (touch_with_visits arrays j (walk arrays p) t c for_them small)
 
 pub pieces_stay_for : (arrays : Arrays) (j : ℕ) (ps : List Steps) (t : TableParts) → IsFor arrays t → IsFor arrays (with_pieces arrays j ps t)

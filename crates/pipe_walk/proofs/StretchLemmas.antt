@@ -16,37 +16,37 @@ use Rattle.touch_bounds.specs.declared.interval.Interval.{Interval}
 use Rattle.touch_bounds.specs.declared.touch.Touch.{Touch}
 use Rattle.touch_bounds.specs.Intervals.{LiesIn}
 use Rattle.touch_bounds.specs.Ranges.{Bounds, AreWithin}
-use Rattle.touch_bounds.specs.Touches.{Widens, AreVisitsTold, IsWorkTold}
+use Rattle.touch_bounds.specs.Touches.{Widens, AreVisitsNoted, IsWorkNoted}
 use Rattle.touch_bounds.proofs.PieceLemmas.{clear_apart}
-use Rattle.touch_bounds.proofs.ToldLemmas.{told_wider}
-use Rattle.touch_bounds.proofs.WorkLemmas.{loop_told}
+use Rattle.touch_bounds.proofs.NotedLemmas.{noted_wider}
+use Rattle.touch_bounds.proofs.WorkLemmas.{loop_noted}
 use Rattle.site_walk.proofs.PieceLemmas.{first_none}
 use Rattle.phase_order.specs.Crossings.{IsPiece, HasNoCrossing}
 use Rattle.phase_order.specs.Tests.{crosses, crossing}
 use Rattle.phase_order.proofs.Rows.{entry_within}
 use Rattle.phase_order.proofs.Tests.{tested}
-use Rattle.pipe_walk.specs.Inside.Stretches.{AreTurnsTold, AreClear, IsMemberAlwaysClear, HasNeverCrossing}
+use Rattle.pipe_walk.specs.Inside.Stretches.{AreTurnsNoted, AreClear, IsMemberAlwaysClear, HasNeverCrossing}
 
 -- ---- turns of a loop
 
 some_turn : (from to : ℤ) (n : ℕ) → span from to ≡ suc n → from <ℤ to
 some_turn from to n e = grind (arith, ints)
 
-pub turns_told : (arrays : Arrays) (t : List Touch) (bounds : Bounds) (var : List ℕ) (low high : ℤ) (within : Interval) (body : Work) →
-    ((x : ℤ) → low ≤ℤ x → x <ℤ high → LiesIn within x) → IsWorkTold arrays t ((var, within) ∷ bounds) body → AreTurnsTold arrays t bounds var low high body
-turns_told arrays t bounds var low high within body lies told from to starts ends vars inside = cases (span from to) refl
+pub turns_noted : (arrays : Arrays) (t : List Touch) (bounds : Bounds) (var : List ℕ) (low high : ℤ) (within : Interval) (body : Work) →
+    ((x : ℤ) → low ≤ℤ x → x <ℤ high → LiesIn within x) → IsWorkNoted arrays t ((var, within) ∷ bounds) body → AreTurnsNoted arrays t bounds var low high body
+turns_noted arrays t bounds var low high within body lies noted from to starts ends vars inside = cases (span from to) refl
   where
-    cases : (n : ℕ) → span from to ≡ n → AreVisitsTold arrays t (walk arrays (loop var from to body vars))
-    cases zero e = subst (λ n. AreVisitsTold arrays t (walk arrays (turns (λ x. body ((var, x) ∷ vars)) from n))) (sym e) tt
+    cases : (n : ℕ) → span from to ≡ n → AreVisitsNoted arrays t (walk arrays (loop var from to body vars))
+    cases zero e = subst (λ n. AreVisitsNoted arrays t (walk arrays (turns (λ x. body ((var, x) ∷ vars)) from n))) (sym e) tt
     cases (suc n) e =
         let some = some_turn from to n e in
-        loop_told arrays t bounds var from to within body some (λ x a b. lies x (omega (arith, ints)) (omega (arith, ints))) told vars inside
+        loop_noted arrays t bounds var from to within body some (λ x a b. lies x (omega (arith, ints)) (omega (arith, ints))) noted vars inside
 
 -- A loop without turns.
-pub no_turns_told : (arrays : Arrays) (t : List Touch) (bounds : Bounds) (var : List ℕ) (low high : ℤ) (body : Work) → high ≤ℤ low → AreTurnsTold arrays t bounds var low high body
-no_turns_told arrays t bounds var low high body none from to starts ends vars inside =
+pub no_turns_noted : (arrays : Arrays) (t : List Touch) (bounds : Bounds) (var : List ℕ) (low high : ℤ) (body : Work) → high ≤ℤ low → AreTurnsNoted arrays t bounds var low high body
+no_turns_noted arrays t bounds var low high body none from to starts ends vars inside =
     let nothing : span from to ≡ 0 = grind (arith, ints) in
-    subst (λ n. AreVisitsTold arrays t (walk arrays (turns (λ x. body ((var, x) ∷ vars)) from n))) (sym nothing) tt
+    subst (λ n. AreVisitsNoted arrays t (walk arrays (turns (λ x. body ((var, x) ∷ vars)) from n))) (sym nothing) tt
 
 -- ---- pieces of members
 
@@ -87,59 +87,59 @@ piece_at (b ∷ bs) var low high m vars d j (suc k) piece e =
     (omega arith, rest.1, rest.2)
 
 -- The stretches of a member's own turns.
-pub own_told : (arrays : Arrays) (t : List Touch) (bounds : Bounds) (bs : List Block) (var : List ℕ) (low high : ℤ) (m : ℕ) (d : Block) (j k : ℕ) →
-    AreTurnsTold arrays t bounds var (start_of low high m j) (start_of low high m (j + 1)) (sequence_work (sequence_of (get_or bs k d))) →
-    (vars : Vars) → AreWithin bounds vars → (piece : Steps) → IsPiece (rounds_in bs var low high m vars) j k piece → AreVisitsTold arrays t (walk arrays piece)
-own_told arrays t bounds bs var low high m d j k told vars inside piece e =
+pub own_noted : (arrays : Arrays) (t : List Touch) (bounds : Bounds) (bs : List Block) (var : List ℕ) (low high : ℤ) (m : ℕ) (d : Block) (j k : ℕ) →
+    AreTurnsNoted arrays t bounds var (start_of low high m j) (start_of low high m (j + 1)) (sequence_work (sequence_of (get_or bs k d))) →
+    (vars : Vars) → AreWithin bounds vars → (piece : Steps) → IsPiece (rounds_in bs var low high m vars) j k piece → AreVisitsNoted arrays t (walk arrays piece)
+own_noted arrays t bounds bs var low high m d j k noted vars inside piece e =
     let found = piece_at bs var low high m vars d j k piece e in
-    subst (λ p. AreVisitsTold arrays t (walk arrays p)) (sym found.2)
-    (told (start_of low high m j) (start_of low high m (j + 1)) (omega (arith, ints)) (omega (arith, ints)) vars inside)
+    subst (λ p. AreVisitsNoted arrays t (walk arrays p)) (sym found.2)
+    (noted (start_of low high m j) (start_of low high m (j + 1)) (omega (arith, ints)) (omega (arith, ints)) vars inside)
 
 -- The stretches of the turns of all higher members.
-pub above_told : (arrays : Arrays) (t : List Touch) (bounds : Bounds) (bs : List Block) (var : List ℕ) (low high : ℤ) (m : ℕ) (d : Block) (j k : ℕ) →
-    AreTurnsTold arrays t bounds var (start_of low high m (j + 1)) (start_of low high m m) (sequence_work (sequence_of (get_or bs k d))) →
+pub above_noted : (arrays : Arrays) (t : List Touch) (bounds : Bounds) (bs : List Block) (var : List ℕ) (low high : ℤ) (m : ℕ) (d : Block) (j k : ℕ) →
+    AreTurnsNoted arrays t bounds var (start_of low high m (j + 1)) (start_of low high m m) (sequence_work (sequence_of (get_or bs k d))) →
     (vars : Vars) → AreWithin bounds vars → (above : ℕ) (piece : Steps) → j < above → IsPiece (rounds_in bs var low high m vars) above k piece →
-    AreVisitsTold arrays t (walk arrays piece)
-above_told arrays t bounds bs var low high m d j k told vars inside above piece less e =
+    AreVisitsNoted arrays t (walk arrays piece)
+above_noted arrays t bounds bs var low high m d j k noted vars inside above piece less e =
     let found = piece_at bs var low high m vars d above k piece e in
     let small = found.1 in
-    subst (λ p. AreVisitsTold arrays t (walk arrays p)) (sym found.2)
-    (told (start_of low high m above) (start_of low high m (above + 1))
+    subst (λ p. AreVisitsNoted arrays t (walk arrays p)) (sym found.2)
+    (noted (start_of low high m above) (start_of low high m (above + 1))
     (start_rises low high m (j + 1) above (omega arith)) (start_rises low high m (above + 1) m (omega arith)) vars inside)
 
 -- ---- phase after phase
 
-both_apart : (arrays : Arrays) (t u : List Touch) (a b : Steps) → AreVisitsTold arrays t (walk arrays a) → AreVisitsTold arrays u (walk arrays b) → AreClear arrays t u → IsSeparate arrays a b
+both_apart : (arrays : Arrays) (t u : List Touch) (a b : Steps) → AreVisitsNoted arrays t (walk arrays a) → AreVisitsNoted arrays u (walk arrays b) → AreClear arrays t u → IsSeparate arrays a b
 both_apart arrays t u a b ta ub clear = (clear_apart arrays (t ∷ u ∷ []) (a ∷ b ∷ []) (ta, (ub, tt)) (λ number small. ((clear number small, tt), (tt, tt)))).0.0
 
 -- After some phases: the stretches have all that higher members did in them, and the member's own pieces were clear.
 pub record IsPassed (arrays : Arrays) (bounds : Bounds) (member passed : ℕ) (rounds : Vars → List (List Steps)) (above : List Touch) : Type 0 where
-  pub told : (vars : Vars) → AreWithin bounds vars → (high k : ℕ) (piece : Steps) → member < high → k < passed → IsPiece (rounds vars) high k piece →
-      AreVisitsTold arrays above (walk arrays piece)
+  pub noted : (vars : Vars) → AreWithin bounds vars → (high k : ℕ) (piece : Steps) → member < high → k < passed → IsPiece (rounds vars) high k piece →
+      AreVisitsNoted arrays above (walk arrays piece)
   pub clear : (vars : Vars) → AreWithin bounds vars → (high early late : ℕ) (one other : Steps) → member < high → early < late → late < passed →
       IsPiece (rounds vars) member late one → IsPiece (rounds vars) high early other → IsSeparate arrays one other
 
 pub none_passed : (arrays : Arrays) (bounds : Bounds) (member : ℕ) (rounds : Vars → List (List Steps)) (above : List Touch) → IsPassed arrays bounds member 0 rounds above
 none_passed arrays bounds member rounds above = record {
-  told = λ vars inside high k piece less none at. absurd (omega arith);
+  noted = λ vars inside high k piece less none at. absurd (omega arith);
   clear = λ vars inside high early late one other less before none at_one at_other. absurd (omega arith);
 }
 
 pub one_passed : (arrays : Arrays) (bounds : Bounds) (member k : ℕ) (rounds : Vars → List (List Steps)) (own before after : List Touch) →
     IsPassed arrays bounds member k rounds before → AreClear arrays own before → Widens before after →
-    ((vars : Vars) → AreWithin bounds vars → (piece : Steps) → IsPiece (rounds vars) member k piece → AreVisitsTold arrays own (walk arrays piece)) →
-    ((vars : Vars) → AreWithin bounds vars → (high : ℕ) (piece : Steps) → member < high → IsPiece (rounds vars) high k piece → AreVisitsTold arrays after (walk arrays piece)) →
+    ((vars : Vars) → AreWithin bounds vars → (piece : Steps) → IsPiece (rounds vars) member k piece → AreVisitsNoted arrays own (walk arrays piece)) →
+    ((vars : Vars) → AreWithin bounds vars → (high : ℕ) (piece : Steps) → member < high → IsPiece (rounds vars) high k piece → AreVisitsNoted arrays after (walk arrays piece)) →
     IsPassed arrays bounds member (k + 1) rounds after
 one_passed arrays bounds member k rounds own before after h clear wider own_is above_is = record {
-  told = λ vars inside high i piece less small at. ⊎_elim
-      (λ l. told_wider arrays before after (walk arrays piece) wider (h.told vars inside high i piece less l at))
+  noted = λ vars inside high i piece less small at. ⊎_elim
+      (λ l. noted_wider arrays before after (walk arrays piece) wider (h.noted vars inside high i piece less l at))
       (λ l. let here : i ≡ k = omega arith in above_is vars inside high piece less (subst (λ n. IsPiece (rounds vars) high n piece) here at))
       (cases_lt i k);
   clear = λ vars inside high early late one other less order small at_one at_other. ⊎_elim
       (λ l. h.clear vars inside high early late one other less order l at_one at_other)
       (λ l. let here : late ≡ k = omega arith in
       both_apart arrays own before one other (own_is vars inside one (subst (λ n. IsPiece (rounds vars) member n one) here at_one))
-      (h.told vars inside high early other less (omega arith) at_other) clear)
+      (h.noted vars inside high early other less (omega arith) at_other) clear)
       (cases_lt late k);
 }
 

@@ -5,7 +5,7 @@ ghost use Rattle.pipe_walk.specs.Inside.Members.{joined_members, starts_below, l
 /// The members of a `team` that read or changed a cell: none, or some from the first to the last.
 #[derive(Clone, Copy, PartialEq, Eq, Debug, Drop)]
 pub(crate) enum Members {
-    Nobody,
+    NoMember,
     Between { first: usize, last: usize },
 }
 
@@ -15,8 +15,8 @@ impl Members {
         ensures { result ≡ joined_members self other }
     {
         match (self, other) {
-            (Members::Nobody, _) => other,
-            (_, Members::Nobody) => self,
+            (Members::NoMember, _) => other,
+            (_, Members::NoMember) => self,
             (
                 Members::Between { first, last },
                 Members::Between {
@@ -35,7 +35,7 @@ impl Members {
         ensures { result ≡ starts_below member self }
     {
         match self {
-            Members::Nobody => false,
+            Members::NoMember => false,
             Members::Between { first, .. } => first < member,
         }
     }
@@ -45,7 +45,7 @@ impl Members {
         ensures { result ≡ last_of self }
     {
         match self {
-            Members::Nobody => 0,
+            Members::NoMember => 0,
             Members::Between { last, .. } => last,
         }
     }

@@ -6,12 +6,12 @@ ghost use Rattle.array_meaning.specs.Work.{sequence_work};
 ghost use Rattle.array_meaning.specs.Sites.{phase_rounds};
 ghost use Rattle.touch_bounds.specs.Ranges.{bounds_of};
 ghost use Rattle.touch_bounds.specs.Touches.{DoClash, Includes, Widens};
-ghost use Rattle.pipe_walk.specs.Inside.Stretches.{AreTurnsTold, AreClear, IsMemberAlwaysClear, HasNeverCrossing};
+ghost use Rattle.pipe_walk.specs.Inside.Stretches.{AreTurnsNoted, AreClear, IsMemberAlwaysClear, HasNeverCrossing};
 
 use array_eval::{Layout, start_of_member};
 use array_tree::{Block, Blocks, Name};
 use std::alloc::Global;
-use touch_bounds::{Interval, Ranges, Stretch, Touch, UNTOUCHED, tell_block};
+use touch_bounds::{Interval, Ranges, Stretch, Touch, UNTOUCHED, note_block};
 
 // Whether the stretches have a common cell.
 fn meet(one: Stretch, other: Stretch) -> bool
@@ -45,7 +45,7 @@ fn are_clear(layout: &Layout, one: &[Touch], other: &[Touch]) -> bool
 
 // Records a block that runs for each number from `low` to before `high`, and so for any turns of it. Returns whether all is
 // known.
-fn tell_turns<'s>(
+fn note_turns<'s>(
     layout: &Layout,
     body: &'s Block,
     var: &'s Name,
@@ -56,8 +56,8 @@ fn tell_turns<'s>(
 ) -> bool
     requires { length touches.old ≡ length layout.now }
     ensures wider { Widens touches.old touches.new }
-    ensures told { OnTrue result
-        (AreTurnsTold layout.now touches.new (bounds_of ranges.now) var.now low high
+    ensures noted { OnTrue result
+        (AreTurnsNoted layout.now touches.new (bounds_of ranges.now) var.now low high
         (sequence_work (sequence_of body.now))) }
 {
     if low >= high {
@@ -71,7 +71,7 @@ fn tell_turns<'s>(
         },
         outer: ranges,
     };
-    tell_block(layout, body, &turns, touches)
+    note_block(layout, body, &turns, touches)
 }
 
 // Whether the touches of a member's turns in a phase, from `start` to before `end`, are known, and clash with none of the
@@ -92,21 +92,21 @@ fn phase_is_clear<'s>(
     requires above { length above.old ≡ length layout.now }
     ensures wider { Widens above.old above.new }
     ensures own { OnTrue result
-        (AreTurnsTold layout.now own.new (bounds_of ranges.now) var.now start end
+        (AreTurnsNoted layout.now own.new (bounds_of ranges.now) var.now start end
         (sequence_work (sequence_of phase.now))) }
     ensures clear { OnTrue result (AreClear layout.now own.new above.old) }
     ensures above { OnTrue result
-        (AreTurnsTold layout.now above.new (bounds_of ranges.now) var.now end last
+        (AreTurnsNoted layout.now above.new (bounds_of ranges.now) var.now end last
         (sequence_work (sequence_of phase.now))) }
 {
     own.fill(UNTOUCHED);
-    if !tell_turns(layout, phase, var, start, end, ranges, own) {
+    if !note_turns(layout, phase, var, start, end, ranges, own) {
         return false;
     }
     if !are_clear(layout, own, above) {
         return false;
     }
-    tell_turns(layout, phase, var, end, last, ranges, above)
+    note_turns(layout, phase, var, end, last, ranges, above)
 }
 
 // Whether the text shows that a member's touches clash, in each phase, with none of the earlier phases' touches by the members

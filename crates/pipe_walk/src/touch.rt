@@ -13,8 +13,8 @@ pub(crate) struct Touch {
 
 /// No member touched it.
 pub(crate) const UNTOUCHED: Touch = Touch {
-    read: Members::Nobody,
-    changed: Members::Nobody,
+    read: Members::NoMember,
+    changed: Members::NoMember,
 };
 
 impl Touch {
@@ -28,13 +28,13 @@ impl Touch {
         };
         if writes {
             Touch {
-                read: Members::Nobody,
+                read: Members::NoMember,
                 changed: own,
             }
         } else {
             Touch {
                 read: own,
-                changed: Members::Nobody,
+                changed: Members::NoMember,
             }
         }
     }

@@ -8,7 +8,7 @@ use array_tree::Program;
 use deque_rows::{HartRows, rows};
 use forkjoin_sched::{PoolHand, SharedPool};
 use sample_programs::{
-    Answer, Came, TOLD, TWO_BRANCHES, outcome_of, parsed, piece_at, tells, waiting,
+    Answer, Came, TOLD, TWO_BRANCHES, outcome_of, parsed, piece_at, receipts, waiting,
 };
 use sched_api::{Scheduler, Told};
 use std::alloc::Global;
@@ -38,7 +38,7 @@ pub enum Look {
     Contexts,
     Once,
     Nothing,
-    Tells,
+    Receipts,
     Codes,
     BothWays,
 }
@@ -51,11 +51,11 @@ fn holds_of<'a, R: Wait + 'a>(
     look: Look,
 ) -> Result<bool, Fail> {
     match look {
-        Look::Answers => Ok(answers_as_the_pool(rt, hand)),
+        Look::Answers => Ok(returns_as_the_pool(rt, hand)),
         Look::Contexts => contexts_go_first(rt, hand, alloc),
         Look::Once => is_handed_out_once(rt, hand, alloc),
         Look::Nothing => leaves_nothing(rt, hand, alloc),
-        Look::Tells => Ok(tells_all(rt, hand)),
+        Look::Receipts => Ok(returns_all_receipts(rt, hand)),
         Look::Codes => Ok(lets_go(rt, hand)),
         Look::BothWays => Ok(takes_both_ways(rt, hand)),
     }
@@ -111,13 +111,13 @@ fn pieces_go_first<'a, R: Wait + 'a>(rt: &'a R, hand: &mut PoolHand<'a, '_, '_, 
 }
 
 // The same of the hand of site 1.
-fn answers_as_the_pool<'a, R: Wait + 'a>(rt: &'a R, hand: &mut PoolHand<'a, '_, '_, R>) -> bool {
+fn returns_as_the_pool<'a, R: Wait + 'a>(rt: &'a R, hand: &mut PoolHand<'a, '_, '_, R>) -> bool {
     let site = hand.site();
     pieces_go_first(rt, hand) && site == 1
 }
 
 #[test]
-fn a_hand_answers_as_the_pool_does(rt: HostRuntime) -> Result<(), Fail> {
+fn a_hand_returns_what_the_pool_returns(rt: HostRuntime) -> Result<(), Fail> {
     assert!(rt; holds(&rt, rt.alloc(), Look::Answers)?);
     Ok(())
 }
@@ -316,21 +316,21 @@ fn nothing_is_left_of_a_pool_that_is_handed_out(rt: HostRuntime) -> Result<(), F
 }
 
 // Whether a hand's receipts have each call that a scheduler gets.
-fn tells_each<S: Scheduler>(scheduler: &mut S, hold: S::Hold) -> bool {
-    tells(scheduler, hold) == TOLD
+fn returns_each_receipt<S: Scheduler>(scheduler: &mut S, hold: S::Hold) -> bool {
+    receipts(scheduler, hold) == TOLD
 }
 
 // The same before and after its pool is handed out.
-fn tells_all<'a, R: Wait + 'a>(rt: &'a R, hand: &mut PoolHand<'a, '_, '_, R>) -> bool {
-    let before = tells_each(hand, rt);
+fn returns_all_receipts<'a, R: Wait + 'a>(rt: &'a R, hand: &mut PoolHand<'a, '_, '_, R>) -> bool {
+    let before = returns_each_receipt(hand, rt);
     let failed = failed(rt, hand);
     let out = handed_out(rt, hand).is_some();
-    let after = tells_each(hand, rt);
+    let after = returns_each_receipt(hand, rt);
     before && failed && out && after
 }
 
 #[test]
-fn a_hand_tells_what_it_hears(rt: HostRuntime) -> Result<(), Fail> {
-    assert!(rt; holds(&rt, rt.alloc(), Look::Tells)?);
+fn a_hand_returns_a_receipt_of_each_call(rt: HostRuntime) -> Result<(), Fail> {
+    assert!(rt; holds(&rt, rt.alloc(), Look::Receipts)?);
     Ok(())
 }

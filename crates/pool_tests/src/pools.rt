@@ -170,9 +170,9 @@ const PIECES_THEN_WISHES: &[Answer] = &[
 // Child 2 requests two harts. Returns whether the pool's receipt has that, and its pieces go before that wish.
 fn pieces_go_first(pool: &mut Pool) -> bool {
     let told = pool.request((), 2, 2).told();
-    let tells = told.call == Call::Requested && told.child == 2 && told.count == 2;
+    let receipts = told.call == Call::Requested && told.child == 2 && told.count == 2;
     let found = finds(pool, (), PIECES_THEN_WISHES);
-    tells && found
+    receipts && found
 }
 
 #[test]
@@ -203,7 +203,7 @@ fn a_wish_beyond_the_room_is_dropped(rt: HostRuntime) -> Result<(), Fail> {
 const CONTEXTS_THEN_PIECE: &[Answer] = &[Answer::GoesOn, Answer::GoesOn, Answer::Begins(0)];
 
 // Whether a pool's receipt has that a context waits at a mutex.
-fn tells_of_block(pool: &mut Pool) -> bool {
+fn returns_the_receipt_of_block(pool: &mut Pool) -> bool {
     let told = pool.block(()).told();
     told.call == Call::Blocked && told.child == 0 && told.count == 0
 }
@@ -214,10 +214,10 @@ fn contexts_go_first<'p>(
     alloc: Global,
     jobs: &[Job<'p>],
 ) -> Result<bool, Fail> {
-    let tells = tells_of_block(pool);
+    let receipts = returns_the_receipt_of_block(pool);
     let room = has_room(pool, (), alloc, jobs, TWO_OF_THREE)?;
     let found = finds(pool, (), CONTEXTS_THEN_PIECE);
-    Ok(tells && room && found)
+    Ok(receipts && room && found)
 }
 
 #[test]

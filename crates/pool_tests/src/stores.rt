@@ -47,7 +47,7 @@ fn deposits<'a, 'p, R: Wait + 'a>(
 }
 
 // Whether a hand distinguishes it from the pool's own piece, whose slot it leaves open.
-fn is_told_by_a_hand<R: Wait>(rt: &R, alloc: Global) -> Result<bool, Fail> {
+fn is_reported_by_a_hand<R: Wait>(rt: &R, alloc: Global) -> Result<bool, Fail> {
     let program = parsed(alloc, TWO_BRANCHES)?;
     let other = parsed(alloc, AFTER_A_WRITE)?;
     let shared = shared_pool(alloc, &program)?;
@@ -59,7 +59,7 @@ fn is_told_by_a_hand<R: Wait>(rt: &R, alloc: Global) -> Result<bool, Fail> {
 
 #[test]
 fn a_piece_from_another_store_is_a_stranger_to_a_hand(rt: HostRuntime) -> Result<(), Fail> {
-    assert!(rt; is_told_by_a_hand(&rt, rt.alloc())?);
+    assert!(rt; is_reported_by_a_hand(&rt, rt.alloc())?);
     Ok(())
 }
 

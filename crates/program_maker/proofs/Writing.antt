@@ -8,7 +8,7 @@ use Rattle.array_print.specs.Spellings.{SpellsButLines}
 use Rattle.array_print.specs.Texts.{printed}
 use Rattle.array_print.specs.Writable.{IsName, IsPrintable, CanStand, IsWritable}
 use Rattle.array_print.proofs.PrintedPrograms.{writable_spells}
-use Rattle.program_maker.specs.Made.{state_after, drawn, number, plus, times, row_number, column_number, moved, place_at, cell_at, columns, rows, set_cell, gathered, gathered_row, gathered_grid, taken_over, sown, summed, swept, stencil, made_program}
+use Rattle.program_maker.specs.Made.{state_after, drawn, number, plus, times, row_number, column_number, moved, place_at, cell_at, columns, rows, set_cell, gathered, gathered_row, gathered_grid, taken_over, seeded, summed, swept, stencil, made_program}
 
 i_name : IsName (codes "i")
 i_name = (refl, tt, refl)
@@ -111,8 +111,8 @@ taken_over_stands depth size deep few =
     all_stand depth size (set_cell size (codes "g") (cell_at size (codes "h") row_number column_number)) deep few
     (g_name, (here, omega arith), ((h_name, here), omega arith))
 
-sown_stands : (size p q r : ℕ) → size ≤ 40 → p < 16 → q < 16 → r < 16 → CanStand 0 (sown size p q r)
-sown_stands size p q r few small_p small_q small_r =
+seeded_stands : (size p q r : ℕ) → size ≤ 40 → p < 16 → q < 16 → r < 16 → CanStand 0 (seeded size p q r)
+seeded_stands size p q r few small_p small_q small_r =
     let k : IsShort size = short size (omega (arith, few)) in
     let here = place_prints size row_number column_number k i_name j_name in
     all_stand 0 size (set_cell size (codes "g") (plus (plus (times row_number (number p)) (times column_number (number q))) (number r))) (omega arith) few
@@ -134,7 +134,7 @@ stencil_writable size p q r few small_p small_q small_r =
     let cells : IsShort (size * size) = short (size * size) square in
     record {
       declares = (g_name, cells, (h_name, cells, (s_name, short size (omega (arith, few)), tt)));
-      does = (sown_stands size p q r few small_p small_q small_r, (swept_stands size few, (summed_stands size few, tt)));
+      does = (seeded_stands size p q r few small_p small_q small_r, (swept_stands size few, (summed_stands size few, tt)));
     }
 
 drawn_small : (state : ℕ) → drawn (state_after state) < 16

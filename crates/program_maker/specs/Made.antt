@@ -88,8 +88,8 @@ taken_over size = rows 0 size 4
     (columns 0 size (set_cell size (codes "g") (cell_at size (codes "h") row_number column_number)))
 
 -- g[i * K + j] = i * p + j * q + r, all over the grid.
-abbrev pub sown : ℕ → ℕ → ℕ → ℕ → Statement
-sown size p q r = rows 0 size 4 (columns 0 size (set_cell size (codes "g")
+abbrev pub seeded : ℕ → ℕ → ℕ → ℕ → Statement
+seeded size p q r = rows 0 size 4 (columns 0 size (set_cell size (codes "g")
     (plus (plus (times row_number (number p)) (times column_number (number q))) (number r))))
 
 -- s[i] = s[i] + g[i * K + j], all over the grid.
@@ -111,7 +111,7 @@ abbrev pub stencil : ℕ → ℕ → ℕ → ℕ → ProgramTree
 stencil size p q r = record {
   arrays = declared (codes "g") (size * size) ∷ declared (codes "h") (size * size)
       ∷ declared (codes "s") size ∷ [];
-  body = sequence (sown size p q r ∷ swept size ∷ summed size ∷ []);
+  body = sequence (seeded size p q r ∷ swept size ∷ summed size ∷ []);
 }
 
 -- The program of a seed and a size. p, q and r are the first three draws, in this order.

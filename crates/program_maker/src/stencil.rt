@@ -1,7 +1,7 @@
 //! The program.
 ghost use Rattle.std.specs.Prelude.{◌≡◌, ◌≤◌, ◌*◌, [], ◌∷◌, IfOk, codes};
 ghost use Rattle.array_tree.specs.Trees.{program_of, expression_of, statement_of, sequence_of, declarations_of, sequence};
-ghost use Rattle.program_maker.specs.Made.{number, declared, row_number, column_number, plus, times, moved, place_at, cell_at, set_cell, gathered, gathered_row, gathered_grid, taken_over, sown, summed, swept, stencil, made_program};
+ghost use Rattle.program_maker.specs.Made.{number, declared, row_number, column_number, plus, times, moved, place_at, cell_at, set_cell, gathered, gathered_row, gathered_grid, taken_over, seeded, summed, swept, stencil, made_program};
 
 use crate::build::{
     assign, beside, binary, cell, columns, declared, four_times, in_turn, number, rows, variable,
@@ -59,10 +59,10 @@ fn arrays(alloc: Global, size: u8) -> Result<Arrays, AllocError>
 fn body(alloc: Global, size: u8, p: u8, q: u8, r: u8) -> Result<Block, AllocError>
     requires { 1 ≤ size }
     ensures { IfOk result (λ block. sequence_of block
-        ≡ sequence (sown size p q r ∷ swept size ∷ summed size ∷ [])) }
+        ≡ sequence (seeded size p q r ∷ swept size ∷ summed size ∷ [])) }
 {
     let mut statements = Vec::new(alloc);
-    statements.push(sown(alloc, size, p, q, r)?)?;
+    statements.push(seeded(alloc, size, p, q, r)?)?;
     statements.push(swept(alloc, size)?)?;
     statements.push(summed(alloc, size)?)?;
     Ok(Block { statements })
@@ -206,8 +206,8 @@ fn taken_over(alloc: Global, size: u8) -> Result<Stmt, AllocError>
 }
 
 // The initial grid.
-fn sown(alloc: Global, size: u8, p: u8, q: u8, r: u8) -> Result<Stmt, AllocError>
-    ensures { IfOk result (λ s. statement_of s ≡ sown size p q r) }
+fn seeded(alloc: Global, size: u8, p: u8, q: u8, r: u8) -> Result<Stmt, AllocError>
+    ensures { IfOk result (λ s. statement_of s ≡ seeded size p q r) }
 {
     let by_row = times(alloc, row_number(alloc)?, p)?;
     let by_column = times(alloc, column_number(alloc)?, q)?;

@@ -1,6 +1,6 @@
 //! Two harts on threads that claim the members of one claim counter.
 ghost use Rattle.std.specs.Prelude.{◌≡◌, ◌<◌, length, map};
-ghost use Rattle.claim_words.specs.Seats.{AreAll, IsOf, kin};
+ghost use Rattle.claim_words.specs.Seats.{AreAll, IsOf, identity};
 
 use crate::taken::{NUMBERS, Taken};
 use claim_words::laws::claimed;
@@ -12,9 +12,9 @@ use std::thread::{Threads, for_each_mut};
 
 // Claims members until none is left.
 fn claim_all(table: &ClaimTable, taken: &Taken, seat: &mut ClaimSeat)
-    requires of { IsOf table.now (kin seat.old) }
+    requires of { IsOf table.now (identity seat.old) }
     requires row { 0 < length table.now.counts.items }
-    ensures { kin seat.new ≡ kin seat.old }
+    ensures { identity seat.new ≡ identity seat.old }
 {
     for _ in 0..NUMBERS {
         match table.claim(seat, 0) {
@@ -31,14 +31,14 @@ fn play<R: Threads + Wait + Sync>(
     taken: &Taken,
     seats: &mut [ClaimSeat],
 )
-    requires all { AreAll table.now (map kin seats.old) }
+    requires all { AreAll table.now (map identity seats.old) }
     requires row { 0 < length table.now.counts.items }
-    ensures { map kin seats.new ≡ map kin seats.old }
+    ensures { map identity seats.new ≡ map identity seats.old }
 {
     let go = |_hart: usize, seat: &mut ClaimSeat|
-        requires of { IsOf table.now (kin seat.old) }
+        requires of { IsOf table.now (identity seat.old) }
         requires row { 0 < length table.now.counts.items }
-        ensures { kin seat.new ≡ kin seat.old }
+        ensures { identity seat.new ≡ identity seat.old }
     { claim_all(table, taken, seat) };
     for_each_mut(rt, seats, 2, &go);
 }

@@ -1,6 +1,6 @@
 //! Claims by two seats on one thread.
 ghost use Rattle.std.specs.Prelude.{◌≡◌, length, map, vec_len};
-ghost use Rattle.claim_words.specs.Seats.{AreAll, IsOf, kin};
+ghost use Rattle.claim_words.specs.Seats.{AreAll, IsOf, identity};
 
 use claim_words::laws::claimed;
 use claim_words::{ClaimSeat, ClaimTable, Claimed};
@@ -8,9 +8,9 @@ use std::test::Fail;
 
 // The members of a claim counter are claimed from the lowest on, by either seat.
 fn are_claimed_in_order(table: &ClaimTable, one: &mut ClaimSeat, other: &mut ClaimSeat) -> bool
-    requires of { IsOf table.now (kin one.old) × IsOf table.now (kin other.old) }
+    requires of { IsOf table.now (identity one.old) × IsOf table.now (identity other.old) }
     requires rows { length table.now.counts.items ≡ 3 }
-    ensures { (kin one.new ≡ kin one.old) × (kin other.new ≡ kin other.old) }
+    ensures { (identity one.new ≡ identity one.old) × (identity other.new ≡ identity other.old) }
 {
     let first = table.claim(one, 0) == Claimed::Member(0);
     let second = table.claim(other, 0) == Claimed::Member(1);
@@ -20,9 +20,9 @@ fn are_claimed_in_order(table: &ClaimTable, one: &mut ClaimSeat, other: &mut Cla
 
 // Claim counters are independent of one another, and one may have no member.
 fn are_rows_apart(table: &ClaimTable, one: &mut ClaimSeat, other: &mut ClaimSeat) -> bool
-    requires of { IsOf table.now (kin one.old) × IsOf table.now (kin other.old) }
+    requires of { IsOf table.now (identity one.old) × IsOf table.now (identity other.old) }
     requires rows { length table.now.counts.items ≡ 3 }
-    ensures { (kin one.new ≡ kin one.old) × (kin other.new ≡ kin other.old) }
+    ensures { (identity one.new ≡ identity one.old) × (identity other.new ≡ identity other.old) }
 {
     let bare = table.claim(one, 1) == Claimed::NoneLeft { shown: 0 };
     let first = table.claim(one, 2) == Claimed::Member(0);
@@ -32,10 +32,10 @@ fn are_rows_apart(table: &ClaimTable, one: &mut ClaimSeat, other: &mut ClaimSeat
 
 // Two seats claim, and go back into the list.
 fn are_claims_right(table: &ClaimTable, seats: &mut Vec<ClaimSeat>) -> bool
-    requires all { AreAll table.now (map kin seats.old.items) }
+    requires all { AreAll table.now (map identity seats.old.items) }
     requires two { vec_len seats.old ≡ 2 }
     requires rows { length table.now.counts.items ≡ 3 }
-    ensures { map kin seats.new.items ≡ map kin seats.old.items }
+    ensures { map identity seats.new.items ≡ map identity seats.old.items }
 {
     let Some(mut other) = seats.pop() else {
         unreachable!()

@@ -1,6 +1,6 @@
 //! Moves on the deques of all harts.
 ghost use Rattle.std.specs.Prelude.{◌≡◌, ◌<◌, length, map};
-ghost use Rattle.deque_rows.specs.Rows.{IsLevel, AreAll, kin};
+ghost use Rattle.deque_rows.specs.Rows.{IsLevel, AreAll, identity};
 
 use deque_rows::{HartRows, Stolen};
 use std::sync::Wait;
@@ -8,7 +8,7 @@ use std::sync::Wait;
 // Pushes codes onto a hart's own deque, as far as it has room.
 pub fn put(rows: &mut HartRows, level: u8, codes: &[u32])
     requires { IsLevel level }
-    ensures { kin rows.new ≡ kin rows.old }
+    ensures { identity rows.new ≡ identity rows.old }
 {
     for code in codes {
         if 0 < rows.room(level) {
@@ -20,7 +20,7 @@ pub fn put(rows: &mut HartRows, level: u8, codes: &[u32])
 // A hart pushes codes onto its deque.
 pub fn put_at(rows: &mut [HartRows], hart: usize, level: u8, codes: &[u32])
     requires { IsLevel level × (hart < length rows.old) }
-    ensures { map kin rows.new ≡ map kin rows.old }
+    ensures { map identity rows.new ≡ map identity rows.old }
 {
     put(&mut rows[hart], level, codes);
 }
@@ -28,17 +28,17 @@ pub fn put_at(rows: &mut [HartRows], hart: usize, level: u8, codes: &[u32])
 // A hart pops from its deque.
 pub fn pop_at(rows: &mut [HartRows], hart: usize, level: u8) -> Option<u32>
     requires { IsLevel level × (hart < length rows.old) }
-    ensures { map kin rows.new ≡ map kin rows.old }
+    ensures { map identity rows.new ≡ map identity rows.old }
 {
     rows[hart].pop(level)
 }
 
 // A hart steals from a deque.
 pub fn steal_at<R: Wait>(rt: &R, rows: &mut [HartRows], thief: usize, hart: u8, level: u8) -> Stolen
-    requires all { AreAll (map kin rows.old) }
+    requires all { AreAll (map identity rows.old) }
     requires row { IsLevel level × (hart < length rows.old) }
     requires thief { thief < length rows.old }
-    ensures { map kin rows.new ≡ map kin rows.old }
+    ensures { map identity rows.new ≡ map identity rows.old }
 {
     rows[thief].steal(rt, hart, level)
 }

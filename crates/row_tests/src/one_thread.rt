@@ -1,6 +1,6 @@
 //! The deques of two harts on one thread.
 ghost use Rattle.std.specs.Prelude.{◌≡◌, ◌≤◌, length, map};
-ghost use Rattle.deque_rows.specs.Rows.{AreAll, kin};
+ghost use Rattle.deque_rows.specs.Rows.{AreAll, identity};
 
 use crate::moves::{pop_at, put_at, steal_at};
 use deque_rows::laws::settle;
@@ -10,8 +10,8 @@ use std::test::Fail;
 
 // The home pops the last code, and a guest steals the first.
 fn are_ends_kept<R: Wait>(rt: &R, rows: &mut [HartRows]) -> bool
-    requires { AreAll (map kin rows.old) × (length rows.old ≡ 2) }
-    ensures { map kin rows.new ≡ map kin rows.old }
+    requires { AreAll (map identity rows.old) × (length rows.old ≡ 2) }
+    ensures { map identity rows.new ≡ map identity rows.old }
 {
     put_at(rows, 0, 1, &[10, 11, 12]);
     let last = pop_at(rows, 0, 1);
@@ -24,8 +24,8 @@ fn are_ends_kept<R: Wait>(rt: &R, rows: &mut [HartRows]) -> bool
 
 // The deques of other levels and of other harts are separate, and a hart may steal from its own deque.
 fn are_rows_apart<R: Wait>(rt: &R, rows: &mut [HartRows]) -> bool
-    requires { AreAll (map kin rows.old) × (length rows.old ≡ 2) }
-    ensures { map kin rows.new ≡ map kin rows.old }
+    requires { AreAll (map identity rows.old) × (length rows.old ≡ 2) }
+    ensures { map identity rows.new ≡ map identity rows.old }
 {
     put_at(rows, 0, 2, &[20, 21]);
     put_at(rows, 1, 3, &[30, 31]);
@@ -57,7 +57,7 @@ fn the_home_pops_the_last_and_a_guest_steals_the_first(rt: HostRuntime) -> Resul
 // A deque with room for three codes takes the first three of four, and no other one after a pop.
 fn is_filled(rows: &mut [HartRows]) -> bool
     requires { length rows.old ≡ 2 }
-    ensures { map kin rows.new ≡ map kin rows.old }
+    ensures { map identity rows.new ≡ map identity rows.old }
 {
     put_at(rows, 1, 1, &[10, 11, 12, 13]);
     let last = pop_at(rows, 1, 1) == Some(12);

@@ -1,6 +1,6 @@
 //! Two harts on threads, one of which steals what the other pushes.
 ghost use Rattle.std.specs.Prelude.{◌≡◌, ◌<◌, length, map};
-ghost use Rattle.deque_rows.specs.Rows.{AreAll, kin};
+ghost use Rattle.deque_rows.specs.Rows.{AreAll, identity};
 
 use crate::moves::{pop_at, put, steal_at};
 use crate::taken::{NUMBERS, Taken};
@@ -19,7 +19,7 @@ const TRIES: u32 = 4096;
 
 // The home pushes each code, and pops every third time.
 fn be_home(taken: &Taken, home: &mut HartRows)
-    ensures { kin home.new ≡ kin home.old }
+    ensures { identity home.new ≡ identity home.old }
 {
     for code in 0..CODES {
         put(home, 1, &[code]);
@@ -34,7 +34,7 @@ fn be_home(taken: &Taken, home: &mut HartRows)
 // The guest steals the codes that it finds.
 fn be_guest<R: Wait>(rt: &R, taken: &Taken, guest: &mut HartRows)
     requires { 0 < guest.old.harts }
-    ensures { kin guest.new ≡ kin guest.old }
+    ensures { identity guest.new ≡ identity guest.old }
 {
     for _ in 0..TRIES {
         if let Stolen::Code(code) = guest.steal(rt, 0, 1) {
@@ -46,7 +46,7 @@ fn be_guest<R: Wait>(rt: &R, taken: &Taken, guest: &mut HartRows)
 // Hart 0 is the home.
 fn take_part<R: Wait>(rt: &R, taken: &Taken, rows: &mut HartRows, hart: usize)
     requires { 0 < rows.old.harts }
-    ensures { kin rows.new ≡ kin rows.old }
+    ensures { identity rows.new ≡ identity rows.old }
 {
     match hart {
         0 => be_home(taken, rows),
@@ -56,20 +56,20 @@ fn take_part<R: Wait>(rt: &R, taken: &Taken, rows: &mut HartRows, hart: usize)
 
 // Both harts do so at once.
 fn play<R: Threads + Wait + Sync>(rt: &R, taken: &Taken, rows: &mut [HartRows])
-    requires { AreAll (map kin rows.old) }
-    ensures { map kin rows.new ≡ map kin rows.old }
+    requires { AreAll (map identity rows.old) }
+    ensures { map identity rows.new ≡ map identity rows.old }
 {
     let go = |hart: usize, one: &mut HartRows|
         requires { 0 < one.old.harts }
-        ensures { kin one.new ≡ kin one.old }
+        ensures { identity one.new ≡ identity one.old }
     { take_part(rt, taken, one, hart) };
     for_each_mut(rt, rows, 2, &go);
 }
 
 // One thread takes the rest.
 fn take_rest<R: Wait>(rt: &R, taken: &Taken, rows: &mut [HartRows])
-    requires { AreAll (map kin rows.old) × (length rows.old ≡ 2) }
-    ensures { map kin rows.new ≡ map kin rows.old }
+    requires { AreAll (map identity rows.old) × (length rows.old ≡ 2) }
+    ensures { map identity rows.new ≡ map identity rows.old }
 {
     for _ in 0..CODES {
         if let Stolen::Code(code) = steal_at(rt, rows, 1, 0, 1) {

@@ -37,16 +37,16 @@ compared number (wanted ∷ next ∷ more) found = Err (BadLine (number + 1))
 compared number last found = Ok record { differs = None; lines = number; rest = found }
 
 -- A fault of the journal, with its line in the output.
-abbrev pub told_behind : ℕ → TextFault → TextFault
-told_behind lines (BadLine line) = BadLine (line + lines)
-told_behind lines (BadNumber line) = BadNumber (line + lines)
-told_behind lines (WrongCount said found) = WrongCount said found
-told_behind lines Memory = Memory
+abbrev pub reported_behind : ℕ → TextFault → TextFault
+reported_behind lines (BadLine line) = BadLine (line + lines)
+reported_behind lines (BadNumber line) = BadNumber (line + lines)
+reported_behind lines (WrongCount said found) = WrongCount said found
+reported_behind lines Memory = Memory
 
 -- The number of the lines before the text is added to the line of its fault.
 abbrev pub behind : {A : Type 0} → ℕ → Result A TextFault → Result A TextFault
 behind lines (Ok x) = Ok x
-behind lines (Err fault) = Err (told_behind lines fault)
+behind lines (Err fault) = Err (reported_behind lines fault)
 
 -- The verdict is Legal if the list of entries has no fault, and otherwise Illegal.
 abbrev pub of_fault : Option Fault → ℕ → Verdict

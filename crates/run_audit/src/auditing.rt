@@ -7,7 +7,7 @@ ghost use Rattle.array_meaning.specs.Work.{final_store};
 ghost use Rattle.array_eval.specs.ArrayText.{array_text};
 ghost use Rattle.journal_text.specs.Reading.{lines_of};
 ghost use Rattle.journal_text.specs.Seen.{Reads};
-ghost use Rattle.run_audit.specs.Audit.{compared, earliest, verdict_of, told_behind, audited, audit_of};
+ghost use Rattle.run_audit.specs.Audit.{compared, earliest, verdict_of, reported_behind, audited, audit_of};
 ghost use Rattle.run_audit.specs.Found.{compared_seen, IsWithin};
 ghost use Rattle.run_audit.specs.Parts.{most_audited};
 
@@ -152,15 +152,15 @@ fn audited(
 {
     match read_entries(alloc, plan, found.rest) {
         Ok(list) => Ok(verdict(alloc, plan, meant, found.differs, &list)?),
-        Err(fault) => Err(told_behind(fault, found.lines)),
+        Err(fault) => Err(reported_behind(fault, found.lines)),
     }
 }
 
 // The fault, with its line counted in the output.
-fn told_behind(fault: TextFault, lines: u32) -> TextFault
+fn reported_behind(fault: TextFault, lines: u32) -> TextFault
     requires few { lines ≤ most_audited }
     requires within { IsWithin (most_audited + 1) fault }
-    ensures { result ≡ told_behind lines fault }
+    ensures { result ≡ reported_behind lines fault }
 {
     match fault {
         TextFault::BadLine { line } => TextFault::BadLine { line: line + lines },

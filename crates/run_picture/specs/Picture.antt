@@ -38,8 +38,8 @@ entries_behind plan arrays output = or_none (journal_behind plan arrays output)
 
 -- a list of entries as a picture, by the sites that are meant to be entered, with a line that reports a verdict
 abbrev pub drawn_in : Form → Plan → List Bool → List Shape → List Entry → List ℕ → List ℕ
-drawn_in Text plan meant shapes list told = text_picture plan meant shapes list told
-drawn_in Svg plan meant shapes list told = svg_picture plan meant shapes list told
+drawn_in Text plan meant shapes list reported = text_picture plan meant shapes list reported
+drawn_in Svg plan meant shapes list reported = svg_picture plan meant shapes list reported
 
 -- a verdict, and a picture that has it as a line
 pub record Pictured : Type 0 where

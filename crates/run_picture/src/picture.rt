@@ -202,8 +202,8 @@ fn pictured(
     ensures { IfOk result (λ picture.
         picture_seen picture ≡ pictured form plan.now meant.now shapes.now verdict list.now) }
 {
-    let told = verdict_line(alloc, verdict)?;
-    let text = drawn_in(alloc, form, plan, meant, shapes, list, &told)?;
+    let reported = verdict_line(alloc, verdict)?;
+    let text = drawn_in(alloc, form, plan, meant, shapes, list, &reported)?;
     Ok(Picture { verdict, text })
 }
 
@@ -215,16 +215,16 @@ fn drawn_in(
     meant: &[bool],
     shapes: &[Shape],
     list: &[Entry],
-    told: &[u8],
+    reported: &[u8],
 ) -> Result<Vec<u8>, AllocError>
     requires few { length list.now ≤ most_entries }
     requires meant { length meant.now ≡ site_count plan.now }
     requires shapes { length shapes.now ≡ site_count plan.now }
     ensures { IfOk result
-        (λ text. text.items ≡ drawn_in form plan.now meant.now shapes.now list.now told.now) }
+        (λ text. text.items ≡ drawn_in form plan.now meant.now shapes.now list.now reported.now) }
 {
     match form {
-        Form::Text => text_picture(alloc, plan, meant, shapes, list, told),
-        Form::Svg => svg_picture(alloc, plan, meant, shapes, list, told),
+        Form::Text => text_picture(alloc, plan, meant, shapes, list, reported),
+        Form::Svg => svg_picture(alloc, plan, meant, shapes, list, reported),
     }
 }

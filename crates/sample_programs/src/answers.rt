@@ -38,7 +38,7 @@ pub fn outcome_of(deposit: Deposit) -> Came {
 
 /// The receipts of a scheduler's callbacks, each called once: child 3 registers, requests a hart, gives it back and
 /// unregisters, and a context waits at a mutex.
-pub fn tells<S: Scheduler>(scheduler: &mut S, hold: S::Hold) -> [Told; 5] {
+pub fn receipts<S: Scheduler>(scheduler: &mut S, hold: S::Hold) -> [Told; 5] {
     [
         scheduler.register(hold, 3).told(),
         scheduler.request(hold, 3, 1).told(),

@@ -10,7 +10,7 @@ mod answers;
 mod constructs;
 mod programs;
 
-pub use answers::{Answer, Came, TOLD, outcome_of, tells};
+pub use answers::{Answer, Came, TOLD, outcome_of, receipts};
 pub use constructs::{first_construct, first_jobs, piece_at, waiting};
 pub use programs::{
     BOTH_BRANCHES, BOTH_PHASES, FIRST_PHASE, SECOND_PHASE, TWO_BRANCHES, TWO_PHASES, accepted,

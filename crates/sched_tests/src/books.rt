@@ -100,7 +100,7 @@ fn fails_at_one<'p>(book: &mut Book<'p>, alloc: Global, jobs: &[Job<'p>]) -> Res
 }
 
 #[test]
-fn a_failed_place_is_want_of_memory(rt: HostRuntime) -> Result<(), Fail> {
+fn a_failed_slot_is_out_of_memory(rt: HostRuntime) -> Result<(), Fail> {
     let alloc = rt.alloc();
     let program = parsed(alloc, TWO_BRANCHES)?;
     let (mut book, copies) = begun(alloc, &program)?;

@@ -8,7 +8,7 @@ use Rattle.transfer_table.specs.Journal.{Reaches, is_meant}
 use Rattle.transfer_table.specs.declared.entry.Stage.{Stage}
 use Rattle.transfer_table.specs.declared.entry.Stage.TheVariants.{New, Live, Gone}
 use Rattle.transfer_table.specs.declared.entry.Entry.{Entry}
-use Rattle.transfer_table.proofs.Balance.{rows_tell, registered-home}
+use Rattle.transfer_table.proofs.Balance.{rows_report, registered-home}
 use Rattle.site_accounts.specs.Accounts.{IsOverAs, AreOverAs}
 use Rattle.site_accounts.specs.Laws.{AllOverIsComplete}
 
@@ -41,9 +41,9 @@ gone_as_meant p meant es t plan is count over s site =
     let high = site.1 in
     let place : 1 + (s - 1) ≡ s = omega (arith, low) in
     let here : IsOverAs p es s (is_meant meant s) = rw place at (over_at p es 1 (s - 1) meant (omega (arith, low, high, count)) over) in
-    let told = rows_tell p plan es t is s site in
+    let reported = rows_report p plan es t is s site in
     let either = came_if p es s (is_meant meant s) here in
-    gone_as (row t s).stage (is_some (row t s).home) (is_meant meant s) (unregisters s es) (skips_over p s es) told.went told.skipped either.0 either.1
+    gone_as (row t s).stage (is_some (row t s).home) (is_meant meant s) (unregisters s es) (skips_over p s es) reported.went reported.skipped either.0 either.1
 
 pub all_over_is_complete : AllOverIsComplete
 all_over_is_complete p meant es t plan is count over = (

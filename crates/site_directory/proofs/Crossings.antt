@@ -17,7 +17,7 @@ use Rattle.once_cell.specs.contracts.race.note.Note as Note
 use Rattle.once_cell.proofs.race.once_box.OnceBox.TheSendSync as OnceBoxCrosses
 use Rattle.once_cell.proofs.race.note.Note.TheSendSync as NoteCrosses
 use Rattle.site_directory.specs.contracts.shared_site.SharedSite as SharedSite
-use Rattle.site_directory.specs.contracts.directory.SiteLine as SiteLine
+use Rattle.site_directory.specs.contracts.directory.SiteCell as SiteCell
 
 module _ (l : NamedLft) where
   job_sync : IsSync (Job.the_row l)
@@ -45,7 +45,7 @@ module _ (l : NamedLft) where
   shared_site_sync = let pool = shared_pool_sync in let team = shared_team_sync l in let pipe = shared_pipe_sync l in search (crosses, sendable) depth 60 fits 20000
 
 -- A line to a cell moves between threads with what the cell shares.
-pub line_send : (a p : NamedLft) → IsSend (SiteLine.the_row a (SharedSite.the_row p))
+pub line_send : (a p : NamedLft) → IsSend (SiteCell.the_row a (SharedSite.the_row p))
 line_send a p =
     let sent = shared_site_send p in
     let shared = shared_site_sync p in

@@ -9,19 +9,19 @@ use std::sync::Wait;
 
 /// One hart's view of the cell of one site.
 #[derive(Drop)]
-pub struct SiteLine<'a, S> {
+pub struct SiteCell<'a, S> {
     cell: &'a OnceBox<S>,
     note: Note<S>,
     ghost same: { note.cell ≡ cell_name cell.now },
 }
 
-impl<'a, S: Drop> SiteLine<'a, S> {
+impl<'a, S: Drop> SiteCell<'a, S> {
     /// A view of a cell, with no scheduler found.
-    pub fn new(cell: &'a OnceBox<S>) -> SiteLine<'a, S>
+    pub fn new(cell: &'a OnceBox<S>) -> SiteCell<'a, S>
         ensures cell { result.note.cell ≡ cell_name cell.now }
         ensures first { result.note.known ≡ None }
     {
-        SiteLine {
+        SiteCell {
             cell,
             note: cell.note(),
         }
@@ -108,14 +108,14 @@ pub fn cells<S: Drop>(alloc: Global, sites: u16) -> Result<Vec<OnceBox<S>>, Allo
 pub fn lines<'a, S: Drop>(
     alloc: Global,
     cells: &'a [OnceBox<S>],
-) -> Result<Vec<SiteLine<'a, S>>, AllocError>
+) -> Result<Vec<SiteCell<'a, S>>, AllocError>
     ensures count { IfOk result (λ lines. vec_len lines ≡ length cells.now) }
     ensures order { IfOk result
         (λ lines. map (λ line. line.note.cell) lines.items ≡ map cell_name cells.now) }
 {
     let mut lines = Vec::with_capacity(alloc, cells.len())?;
     for cell in cells {
-        lines.push(SiteLine::new(cell))?;
+        lines.push(SiteCell::new(cell))?;
     }
     Ok(lines)
 }

@@ -4,11 +4,11 @@
 //! never finds another scheduler there than before.
 //!
 //! The harts of one run share the directory: a home publishes the scheduler of its site, and other harts find it. Begin with
-//! `SiteLine` in `directory.rt`; the tests of `directory_tests` publish and find schedulers, with one hart and with threads.
+//! `SiteCell` in `directory.rt`; the tests of `directory_tests` publish and find schedulers, with one hart and with threads.
 #![tactic(auto)]
 
 mod directory;
 mod shared_site;
 
-pub use directory::{SiteLine, cells, lines};
+pub use directory::{SiteCell, cells, lines};
 pub use shared_site::SharedSite;

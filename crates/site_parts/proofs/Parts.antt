@@ -37,19 +37,19 @@ whole_works_are_passed p around next w more parts none =
 
 -- ---- passes
 
-told_span : (p : Plan) (around first n : ℕ) (told : ℕ × ℕ) → some_span first n ≡ Some told → IsSpan p around first n → IsSpan p around told.0 (told.1 - told.0)
-told_span p around first zero told e is = absurd (cc)
-told_span p around first (suc n) told e is =
-    let same : (first, first + suc n) ≡ told = cc in
+reported_span : (p : Plan) (around first n : ℕ) (reported : ℕ × ℕ) → some_span first n ≡ Some reported → IsSpan p around first n → IsSpan p around reported.0 (reported.1 - reported.0)
+reported_span p around first zero reported e is = absurd (cc)
+reported_span p around first (suc n) reported e is =
+    let same : (first, first + suc n) ≡ reported = cc in
     let count : suc n ≡ first + suc n - first = omega arith in
     subst (λ t. IsSpan p around t.0 (t.1 - t.0)) same (subst (λ k. IsSpan p around first k) count is)
 
-work_spans : (p : Plan) (around next : ℕ) (arrays : Arrays) (store : Store) (w : WorkTree) (vars : Vars) (n : ℕ) (more : List WorkAt) (told : ℕ × ℕ) →
-    work_pass arrays store next w vars ≡ Some told → AreParts p around next (before w vars n ∷ more) → IsSpan p around told.0 (told.1 - told.0)
-work_spans p around next arrays store (branch_of ended) vars n more told e parts = absurd (cc)
-work_spans p around next arrays store (branch_of (followed (Assign line array index value) rest)) vars n more told e parts = absurd (cc)
-work_spans p around next arrays store (branch_of (followed (For line var low high body) rest)) vars n more told e parts = absurd (cc)
-work_spans p around next arrays store (branch_of (followed (If line test left right) rest)) vars n more told e parts =
+work_spans : (p : Plan) (around next : ℕ) (arrays : Arrays) (store : Store) (w : WorkTree) (vars : Vars) (n : ℕ) (more : List WorkAt) (reported : ℕ × ℕ) →
+    work_pass arrays store next w vars ≡ Some reported → AreParts p around next (before w vars n ∷ more) → IsSpan p around reported.0 (reported.1 - reported.0)
+work_spans p around next arrays store (branch_of ended) vars n more reported e parts = absurd (cc)
+work_spans p around next arrays store (branch_of (followed (Assign line array index value) rest)) vars n more reported e parts = absurd (cc)
+work_spans p around next arrays store (branch_of (followed (For line var low high body) rest)) vars n more reported e parts = absurd (cc)
+work_spans p around next arrays store (branch_of (followed (If line test left right) rest)) vars n more reported e parts =
     let Has = HasPartFrom p around in
     let cuts = part_cuts p around in
     let both = sides_stand Has around cuts next line test left right (rest_stands Has around cuts next (If line test left right) rest vars n more parts).0 in
@@ -59,16 +59,16 @@ work_spans p around next arrays store (branch_of (followed (If line test left ri
     side (holds (value_of arrays vars test store)) first second e
   where
     side : (b : Bool) → IsSpan p around next (sites_in left) → IsSpan p around (next + sites_in left) (sites_in right) →
-        cond b (some_span (next + sites_in left) (sites_in right)) (some_span next (sites_in left)) ≡ Some told → IsSpan p around told.0 (told.1 - told.0)
-    side true first second f = told_span p around (next + sites_in left) (sites_in right) told f second
-    side false first second f = told_span p around next (sites_in left) told f first
-work_spans p around next arrays store (branch_of (followed (Par line branches) rest)) vars n more told e parts = absurd (cc)
-work_spans p around next arrays store (branch_of (followed (Team line var low high members phases) rest)) vars n more told e parts = absurd (cc)
-work_spans p around next arrays store (member_of var low high body) vars n more told e parts = absurd (cc)
+        cond b (some_span (next + sites_in left) (sites_in right)) (some_span next (sites_in left)) ≡ Some reported → IsSpan p around reported.0 (reported.1 - reported.0)
+    side true first second f = reported_span p around (next + sites_in left) (sites_in right) reported f second
+    side false first second f = reported_span p around next (sites_in left) reported f first
+work_spans p around next arrays store (branch_of (followed (Par line branches) rest)) vars n more reported e parts = absurd (cc)
+work_spans p around next arrays store (branch_of (followed (Team line var low high members phases) rest)) vars n more reported e parts = absurd (cc)
+work_spans p around next arrays store (member_of var low high body) vars n more reported e parts = absurd (cc)
 
 pub passes_are_spans : PassesAreSpans
-passes_are_spans p around next arrays store [] told e parts = absurd (cc)
-passes_are_spans p around next arrays store (w ∷ more) told e parts = work_spans p around next arrays store w.work w.vars w.after more told e parts
+passes_are_spans p around next arrays store [] reported e parts = absurd (cc)
+passes_are_spans p around next arrays store (w ∷ more) reported e parts = work_spans p around next arrays store w.work w.vars w.after more reported e parts
 
 -- ---- constructs
 

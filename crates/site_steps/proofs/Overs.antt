@@ -9,7 +9,7 @@ use Rattle.transfer_table.specs.Plan.IsWithin.{itself, child}
 use Rattle.transfer_table.specs.declared.entry.Entry.{Entry}
 use Rattle.transfer_table.specs.declared.entry.Stage.{Stage}
 use Rattle.transfer_table.specs.declared.entry.Stage.TheVariants.{New, Live, Gone}
-use Rattle.transfer_table.proofs.Balance.{rows_tell, unregisters-snoc, skips_over-snoc}
+use Rattle.transfer_table.proofs.Balance.{rows_report, unregisters-snoc, skips_over-snoc}
 use Rattle.transfer_table.proofs.Begins.{legal_begins}
 use Rattle.hart_port.proofs.Single.{went}
 use Rattle.transfer_table.proofs.Homes.{legal_home}
@@ -31,7 +31,7 @@ ended_once false r k a b = omega arith
 pub taken_over : (h : PortView) (s : ℕ) → IsPortView h → IsSite h.plan s → h.owner ≡ parent h.plan s → h.alone ≡ true → HasClaimed h s → HasEnded h s
 taken_over h s hand site around alone came =
     let w = hand.whole alone in
-    let counts = rows_tell h.plan hand.plan h.mine w.state w.reached s site in
+    let counts = rows_report h.plan hand.plan h.mine w.state w.reached s site in
     elim (stage_cases (row w.state s).stage) [
       | inl new ↦ absurd (let none = ((legal_begins h.plan hand.plan h.mine w.state w.reached s site).fresh new).0 in
           let never : skips_over h.plan s h.mine ≡ 0 = counts.skipped ∙ ap (λ (g : Stage). if (is_gone g && not (is_some (row w.state s).home)) then 1 else 0) new in omega arith)

@@ -35,7 +35,7 @@ fn children_come_in_rising_order(rt: HostRuntime) -> Result<(), Fail> {
 }
 
 #[test]
-fn a_child_is_told_from_other_sites(rt: HostRuntime) -> Result<(), Fail> {
+fn a_child_is_distinguished_from_other_sites(rt: HostRuntime) -> Result<(), Fail> {
     let plan = small_plan(rt.alloc())?;
     let tree = SiteTree::new(rt.alloc(), &plan)?;
     assert!(rt; tree.is_child(2, 3));
@@ -123,7 +123,7 @@ fn sites_come_and_go_over_a_port_that_waits(rt: HostRuntime) -> Result<(), Fail>
 }
 
 #[test]
-fn nobody_asks_for_the_only_hart_over_a_port_that_waits(rt: HostRuntime) -> Result<(), Fail> {
+fn no_site_requests_the_only_hart_over_a_port_that_waits(rt: HostRuntime) -> Result<(), Fail> {
     let plan = Plan::new(rt.alloc(), 1, &[0, 0])?;
     let mut port = WaitingPort::new(PlainPort::new(rt.alloc(), &plan)?, &rt);
     assert_eq!(rt; port.try_enter((), 2), Entered::NotWanted { shown: 0 });

@@ -8,7 +8,7 @@ use Rattle.array_meaning.specs.Steps.{Steps}
 use Rattle.array_meaning.specs.Touch.{Visit, walk}
 use Rattle.array_meaning.specs.Overlap.{covers, changed, read, overlaps, first_from, overlap}
 use Rattle.site_walk.specs.declared.touched.Pieces.{Pieces}
-use Rattle.site_walk.specs.declared.touched.Pieces.TheVariants.{Nobody, One, Several}
+use Rattle.site_walk.specs.declared.touched.Pieces.TheVariants.{NoPiece, One, Several}
 use Rattle.site_walk.specs.declared.touched.Touched.{Touched}
 use Rattle.site_walk.specs.declared.table.Table.{Table}
 use Rattle.site_walk.specs.Inside.Touched.{joined_pieces, joined, clashes, are_several, touched_at, untouched}
@@ -91,18 +91,18 @@ pieces_stay_clear arrays p (q ∷ ps) t c places small before h =
 -- ---- the marks, and what some piece changed or read
 
 abbrev are_some : Pieces → Bool
-are_some Nobody = false
+are_some NoPiece = false
 are_some (One q) = true
 are_some Several = true
 
 -- the pieces have lower numbers
 abbrev AreOlder : ℕ → Pieces → Type 0
-AreOlder p Nobody = Unit {0}
+AreOlder p NoPiece = Unit {0}
 AreOlder p (One q) = q < p
 AreOlder p Several = Unit {0}
 
 -- the marks by pieces of lower numbers: whether some piece changed the cell, and whether some piece read it
-record Tells (p : ℕ) (done : Touched) (was_changed was_read : Bool) : Type 0 where
+record Reports (p : ℕ) (done : Touched) (was_changed was_read : Bool) : Type 0 where
   written : done.written ≡ was_changed
   some : are_some done.by ≡ (was_changed || was_read)
   older : AreOlder p done.by
@@ -119,14 +119,14 @@ or_assoc false b c = refl
 abbrev clash_then : Bool → Bool → Bool → Bool → Bool
 clash_then w r x y = w && (y || x) || r && x
 
-of_nobody : (p : ℕ) (w r x y : Bool) → false ≡ (x || y) →
-    clashes (after_piece p w r (record { by = Nobody; written = x })) ≡ (clashes (record { by = Nobody; written = x }) || clash_then w r x y)
-of_nobody p w r true y e = absurd (false≢true e)
-of_nobody p w r false true e = absurd (false≢true e)
-of_nobody p true true false false e = refl
-of_nobody p true false false false e = refl
-of_nobody p false true false false e = refl
-of_nobody p false false false false e = refl
+of_no_piece : (p : ℕ) (w r x y : Bool) → false ≡ (x || y) →
+    clashes (after_piece p w r (record { by = NoPiece; written = x })) ≡ (clashes (record { by = NoPiece; written = x }) || clash_then w r x y)
+of_no_piece p w r true y e = absurd (false≢true e)
+of_no_piece p w r false true e = absurd (false≢true e)
+of_no_piece p true true false false e = refl
+of_no_piece p true false false false e = refl
+of_no_piece p false true false false e = refl
+of_no_piece p false false false false e = refl
 
 of_several : (p : ℕ) (w r x y : Bool) → true ≡ (x || y) →
     clashes (after_piece p w r (record { by = Several; written = x })) ≡ (clashes (record { by = Several; written = x }) || clash_then w r x y)
@@ -158,14 +158,14 @@ of_one p q false false false true n e = refl
 
 clash_next : (p : ℕ) (by : Pieces) (w r x y : Bool) → are_some by ≡ (x || y) → AreOlder p by →
     clashes (after_piece p w r (record { by = by; written = x })) ≡ (clashes (record { by = by; written = x }) || clash_then w r x y)
-clash_next p Nobody w r x y e older = of_nobody p w r x y e
+clash_next p NoPiece w r x y e older = of_no_piece p w r x y e
 clash_next p (One q) w r x y e older = of_one p q w r x y (older_test p q older) e
 clash_next p Several w r x y e older = of_several p w r x y e
 
 -- ---- the marks after a piece
 
 some_with_one : (p : ℕ) (by : Pieces) → are_some (joined_pieces (One p) by) ≡ true
-some_with_one p Nobody = refl
+some_with_one p NoPiece = refl
 some_with_one p (One q) = cases (nat_eq p q)
   where
     cases : (b : Bool) → are_some (cond b (One p) Several) ≡ true
@@ -174,7 +174,7 @@ some_with_one p (One q) = cases (nat_eq p q)
 some_with_one p Several = refl
 
 older_with_one : (p : ℕ) (by : Pieces) → AreOlder (p + 1) (joined_pieces (One p) by)
-older_with_one p Nobody = let h : p < p + 1 = omega arith in h
+older_with_one p NoPiece = let h : p < p + 1 = omega arith in h
 older_with_one p (One q) = cases (nat_eq p q)
   where
     cases : (b : Bool) → AreOlder (p + 1) (cond b (One p) Several)
@@ -183,7 +183,7 @@ older_with_one p (One q) = cases (nat_eq p q)
 older_with_one p Several = tt
 
 older_still : (p : ℕ) (by : Pieces) → AreOlder p by → AreOlder (p + 1) by
-older_still p Nobody h = tt
+older_still p NoPiece h = tt
 older_still p (One q) h = let g : q < p + 1 = omega arith in g
 older_still p Several h = tt
 
@@ -191,33 +191,33 @@ with_true : (a : Bool) → (a || true) ≡ true
 with_true true = refl
 with_true false = refl
 
-tells_next : (p : ℕ) (w r : Bool) (done : Touched) (x y : Bool) → Tells p done x y → Tells (p + 1) (after_piece p w r done) (x || w) (y || r)
-tells_next p true r done x y tells = record {
+reports_next : (p : ℕ) (w r : Bool) (done : Touched) (x y : Bool) → Reports p done x y → Reports (p + 1) (after_piece p w r done) (x || w) (y || r)
+reports_next p true r done x y reports = record {
   written = sym (with_true x);
   some = some_with_one p done.by ∙ sym (ap (λ a. a || (y || r)) (with_true x));
   older = older_with_one p done.by;
 }
-tells_next p false true done x y tells = record {
-  written = tells.written ∙ sym (no_more x);
+reports_next p false true done x y reports = record {
+  written = reports.written ∙ sym (no_more x);
   some = some_with_one p done.by ∙ sym (ap (λ a. (x || false) || a) (with_true y) ∙ with_true (x || false));
   older = older_with_one p done.by;
 }
-tells_next p false false done x y tells = record {
-  written = tells.written ∙ sym (no_more x);
-  some = tells.some ∙ sym (ap (λ a. a || (y || false)) (no_more x) ∙ ap (λ a. x || a) (no_more y));
-  older = older_still p done.by tells.older;
+reports_next p false false done x y reports = record {
+  written = reports.written ∙ sym (no_more x);
+  some = reports.some ∙ sym (ap (λ a. a || (y || false)) (no_more x) ∙ ap (λ a. x || a) (no_more y));
+  older = older_still p done.by reports.older;
 }
 
-clash_after : (arrays : Arrays) (p : ℕ) (ps : List Steps) (c : ℕ) (done : Touched) (x y : Bool) → Tells p done x y →
+clash_after : (arrays : Arrays) (p : ℕ) (ps : List Steps) (c : ℕ) (done : Touched) (x y : Bool) → Reports p done x y →
     clashes (done_after arrays p ps c done) ≡ (clashes done || overlaps arrays x y ps c)
-clash_after arrays p [] c done x y tells = sym (no_more (clashes done))
-clash_after arrays p (q ∷ ps) c done x y tells =
+clash_after arrays p [] c done x y reports = sym (no_more (clashes done))
+clash_after arrays p (q ∷ ps) c done x y reports =
     let w = changed arrays (walk arrays q) c in
     let r = read arrays (walk arrays q) c in
     let rest = overlaps arrays (x || w) (y || r) ps c in
-    clash_after arrays (p + 1) ps c (after_piece p w r done) (x || w) (y || r) (tells_next p w r done x y tells)
-    ∙ ap (λ b. b || rest) (clash_next p done.by w r done.written y (tells.some ∙ ap (λ a. a || y) (sym tells.written)) tells.older)
-    ∙ ap (λ a. (clashes done || clash_then w r a y) || rest) tells.written
+    clash_after arrays (p + 1) ps c (after_piece p w r done) (x || w) (y || r) (reports_next p w r done x y reports)
+    ∙ ap (λ b. b || rest) (clash_next p done.by w r done.written y (reports.some ∙ ap (λ a. a || y) (sym reports.written)) reports.older)
+    ∙ ap (λ a. (clashes done || clash_then w r a y) || rest) reports.written
     ∙ or_assoc (clashes done) (clash_then w r x y) rest
 
 -- ---- a round, from an empty table

@@ -3,7 +3,7 @@ use Rattle.std.proofs.Common.{◌≡◌, ℕ, ◌<◌, cond, Bool, true, false, 
 use Rattle.std.specs.Prelude.{nat_eq, ◌&&◌, ◌||◌}
 use Rattle.std.proofs.lemmas.Bool.Decides.{nat_tests}
 use Rattle.site_walk.specs.declared.touched.Pieces.{Pieces}
-use Rattle.site_walk.specs.declared.touched.Pieces.TheVariants.{Nobody, One, Several}
+use Rattle.site_walk.specs.declared.touched.Pieces.TheVariants.{NoPiece, One, Several}
 use Rattle.site_walk.specs.declared.touched.Touched.{Touched}
 use Rattle.site_walk.specs.Inside.Touched.{joined_pieces, joined, clashes, are_several}
 
@@ -31,23 +31,23 @@ ones_comm p q true e =
 ones_comm p q false e = sym (ap (λ b. cond b (One q) Several) (turned_test p q e))
 
 pieces_comm : (a b : Pieces) → joined_pieces a b ≡ joined_pieces b a
-pieces_comm Nobody Nobody = refl
-pieces_comm Nobody (One q) = refl
-pieces_comm Nobody Several = refl
-pieces_comm (One p) Nobody = refl
+pieces_comm NoPiece NoPiece = refl
+pieces_comm NoPiece (One q) = refl
+pieces_comm NoPiece Several = refl
+pieces_comm (One p) NoPiece = refl
 pieces_comm (One p) (One q) = ones_comm p q (nat_eq p q) refl
 pieces_comm (One p) Several = refl
-pieces_comm Several Nobody = refl
+pieces_comm Several NoPiece = refl
 pieces_comm Several (One q) = refl
 pieces_comm Several Several = refl
 
-with_nobody : (a : Pieces) → joined_pieces a Nobody ≡ a
-with_nobody Nobody = refl
-with_nobody (One p) = refl
-with_nobody Several = refl
+with_no_piece : (a : Pieces) → joined_pieces a NoPiece ≡ a
+with_no_piece NoPiece = refl
+with_no_piece (One p) = refl
+with_no_piece Several = refl
 
 with_several : (a : Pieces) → joined_pieces a Several ≡ Several
-with_several Nobody = refl
+with_several NoPiece = refl
 with_several (One p) = refl
 with_several Several = refl
 
@@ -60,16 +60,16 @@ ones_assoc p q r false true e f = sym (ap (λ b. cond b (One p) Several) e)
 ones_assoc p q r false false e f = refl
 
 pieces_assoc : (a b c : Pieces) → joined_pieces (joined_pieces a b) c ≡ joined_pieces a (joined_pieces b c)
-pieces_assoc Nobody b c = refl
-pieces_assoc (One p) Nobody c = refl
-pieces_assoc (One p) (One q) Nobody = with_nobody (joined_pieces (One p) (One q))
+pieces_assoc NoPiece b c = refl
+pieces_assoc (One p) NoPiece c = refl
+pieces_assoc (One p) (One q) NoPiece = with_no_piece (joined_pieces (One p) (One q))
 pieces_assoc (One p) (One q) (One r) = ones_assoc p q r (nat_eq p q) (nat_eq q r) refl refl
 pieces_assoc (One p) (One q) Several = with_several (joined_pieces (One p) (One q))
 pieces_assoc (One p) Several c = refl
 pieces_assoc Several b c = refl
 
 pieces_idem : (a : Pieces) → joined_pieces a a ≡ a
-pieces_idem Nobody = refl
+pieces_idem NoPiece = refl
 pieces_idem (One p) = ap (λ b. cond b (One p) Several) (same_test p p refl)
 pieces_idem Several = refl
 
@@ -119,7 +119,7 @@ joined_again a b = sym (joined_assoc a a b) ∙ ap (λ x. joined x b) (joined_id
 
 clash_parts : (w w' : Bool) (p p' : Pieces) → ((w || w') && are_several (joined_pieces p p')) ≡ false → (w && are_several p) ≡ false
 clash_parts false w' p p' h = refl
-clash_parts true w' Nobody p' h = refl
+clash_parts true w' NoPiece p' h = refl
 clash_parts true w' (One q) p' h = refl
 clash_parts true w' Several p' h = h
 

@@ -5,7 +5,7 @@ ghost use Rattle.site_walk.specs.Inside.Touched.{joined_pieces, joined, clashes}
 /// The pieces of a round that touched a cell.
 #[derive(Clone, Copy, PartialEq, Eq, Debug, Drop)]
 pub(crate) enum Pieces {
-    Nobody,
+    NoPiece,
     One(usize),
     Several,
 }
@@ -16,8 +16,8 @@ impl Pieces {
         ensures { result ≡ joined_pieces self other }
     {
         match (self, other) {
-            (Pieces::Nobody, _) => other,
-            (_, Pieces::Nobody) => self,
+            (Pieces::NoPiece, _) => other,
+            (_, Pieces::NoPiece) => self,
             (Pieces::One(one), Pieces::One(two)) => {
                 if one == two { self } else { Pieces::Several }
             }
@@ -35,7 +35,7 @@ pub(crate) struct Touched {
 
 /// No piece touched it.
 pub(crate) const UNTOUCHED: Touched = Touched {
-    by: Pieces::Nobody,
+    by: Pieces::NoPiece,
     written: false,
 };
 

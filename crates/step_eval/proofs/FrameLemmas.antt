@@ -18,9 +18,9 @@ use Rattle.array_jobs.specs.Works.{branch_of}
 use Rattle.step_eval.specs.Rest.{before}
 use Rattle.step_eval.specs.Moves.{work_moved}
 use Rattle.step_eval.specs.Machines.{construct_of, next_construct}
-use Rattle.step_eval.specs.declared.told.Told.TheVariants.{Nothing}
+use Rattle.step_eval.specs.declared.reported.Reported.TheVariants.{Nothing}
 use Rattle.step_eval.specs.Passes.{pass_of}
-use Rattle.step_eval.specs.Inside.Frames.{IsMore, IsStackedWith, statements_from, works_in, works_of, works_with, HaveTold, HasTurned, IsPast, IsBehind, vars_in}
+use Rattle.step_eval.specs.Inside.Frames.{IsMore, IsStackedWith, statements_from, works_in, works_of, works_with, HaveReported, HasTurned, IsPast, IsBehind, vars_in}
 
 -- A construct leaves the statements after it.
 past_first : (arrays : Arrays) (store : Store) (first : Statement) (rest : Sequence) (vars : Vars) (n : ℕ) → IsSome (construct_of (branch_of (followed first rest))) →
@@ -73,15 +73,15 @@ passed_on_top arrays store (Statements block from after) behind below vars outer
 passed_on_top arrays store (Turns body next high) behind below vars outer some is = absurd is
 
 -- A turn of a loop passes no span of sites.
-turn_tells_nothing : (arrays : Arrays) (store : Store) (next : ℕ) (body : Bor Block) (turn high : ℤ) (below : List Frame) (vars : Vars) →
+turn_reports_nothing : (arrays : Arrays) (store : Store) (next : ℕ) (body : Bor Block) (turn high : ℤ) (below : List Frame) (vars : Vars) →
     pass_of arrays store next (works_in (Turns body turn high ∷ below) vars) ≡ None
-turn_tells_nothing arrays store next body turn high below [] = refl
-turn_tells_nothing arrays store next body turn high below (v ∷ vars) = refl
+turn_reports_nothing arrays store next body turn high below [] = refl
+turn_reports_nothing arrays store next body turn high below (v ∷ vars) = refl
 
-pub turned_told : (arrays : Arrays) (store : Trace) (next : ℕ) (start now : Frames) (body : Bor Block) (turn high : ℤ) (around : Vars) →
-    HasTurned body turn high start now → HaveTold arrays Nothing (works_with (Turns body turn high) start around) store next (works_of now around) store next
-turned_told arrays store next start now body turn high around turned =
-    (turn_tells_nothing arrays store.cells next body turn high (reverse start.below.items) (vars_in start around), turned arrays around store next)
+pub turned_reported : (arrays : Arrays) (store : Trace) (next : ℕ) (start now : Frames) (body : Bor Block) (turn high : ℤ) (around : Vars) →
+    HasTurned body turn high start now → HaveReported arrays Nothing (works_with (Turns body turn high) start around) store next (works_of now around) store next
+turned_reported arrays store next start now body turn high around turned =
+    (turn_reports_nothing arrays store.cells next body turn high (reverse start.below.items) (vars_in start around), turned arrays around store next)
 
 -- A property that holds in any case holds if the result is an error.
 pub always_err : {A B P : Type 0} (result : Result A B) → P → IfErr result (λ x. P)

@@ -28,7 +28,7 @@ use Rattle.step_eval.proofs.MachineLemmas.{length_noted}
 -- A run to a state and a run from it are one run.
 pub runs_further : (first mid last : Progress) → RunsTo first mid → RunsTo mid last → RunsTo first last
 runs_further first mid last a stands = a
-runs_further first mid last a (moves m l b going none untold moved) = moves m l (runs_further first mid m a b) going none untold moved
+runs_further first mid last a (moves m l b going none unreported moved) = moves m l (runs_further first mid m a b) going none unreported moved
 runs_further first mid last a (skims m l b going whole) = skims m l (runs_further first mid m a b) going whole
 
 -- One step is progress.
@@ -45,7 +45,7 @@ gone_step before after (step.Nest (found.Pass first end)) advances steps = moved
     moved (w ∷ more) m = (
       ap (λ x. x.job) m,
       ap (λ x. x.stage) m,
-      record { before = before; ran = stands; stage = advances.0; told = advances.1; moved = advances.2 },
+      record { before = before; ran = stands; stage = advances.0; reported = advances.1; moved = advances.2 },
       steps.1,
     )
 gone_step before after (step.Nest (found.Nest nested)) advances steps =
@@ -67,7 +67,7 @@ gone_further first between last (step.Nest (found.Pass start end)) a b =
     let passed = b.2 in (
       b.0 ∙ a.0,
       b.1,
-      record { before = passed.before; ran = runs_further first between passed.before a.3 passed.ran; stage = passed.stage; told = passed.told; moved = passed.moved },
+      record { before = passed.before; ran = runs_further first between passed.before a.3 passed.ran; stage = passed.stage; reported = passed.reported; moved = passed.moved },
       omega (arith, fewer, less),
     )
 gone_further first between last (step.Nest (found.Nest nested)) a b =

@@ -195,16 +195,16 @@ in_phase nested phase store place first (work ∷ works) job (inl e) = (ap (λ j
 in_phase nested phase store place first (work ∷ works) job (inr m) = in_phase nested phase store (place + 1) (first + sites_of work) works job m
 
 -- What such a job writes is determined by its steps.
-told_by_steps : (declarations : List Declaration) (store : Store) (order : List JobTree) →
+reported_by_steps : (declarations : List Declaration) (store : Store) (order : List JobTree) →
     ((job : JobTree) → IsMember job order → (job.arrays ≡ declarations) × (job.store ≡ store)) →
     map piece_of_job order ≡ map (λ steps. piece_of (arrays_of declarations) steps store) (map steps_of_job order)
-told_by_steps declarations store [] h = refl
-told_by_steps declarations store (job ∷ order) h =
+reported_by_steps declarations store [] h = refl
+reported_by_steps declarations store (job ∷ order) h =
     let own = h job (inl refl) in
     let here : piece_of_job job ≡ piece_of (arrays_of declarations) (steps_of_job job) store
     = ap (λ ds. piece_of (arrays_of ds) (steps_of_job job) job.store) own.0 ∙ ap (piece_of (arrays_of declarations) (steps_of_job job)) own.1 in
     ap (λ ws. ws ∷ map piece_of_job order) here
-    ∙ ap (λ l. piece_of (arrays_of declarations) (steps_of_job job) store ∷ l) (told_by_steps declarations store order (λ j m. h j (inr m)))
+    ∙ ap (λ l. piece_of (arrays_of declarations) (steps_of_job job) store ∷ l) (reported_by_steps declarations store order (λ j m. h j (inr m)))
 
 round_apart : (arrays : Arrays) (rounds : List (List Steps)) (phase : ℕ) → AreRoundsApart arrays rounds → IsApart arrays (round_at rounds phase)
 round_apart arrays [] phase h = tt
@@ -233,7 +233,7 @@ phases_are_merged nested fit phase store h order same =
     let members : HaveSameMembers (map steps_of_job order) (round_of nested phase)
     = subst (HaveSameMembers (map steps_of_job order)) rounds
     (record { to = members_map steps_of_job order jobs same.to; from = members_map steps_of_job jobs order same.from }) in
-    ap (λ ps. merged ps []) (told_by_steps nested.arrays store order (λ job m. in_phase nested phase store 0 _ works job (same.to job m)))
+    ap (λ ps. merged ps []) (reported_by_steps nested.arrays store order (λ job m. in_phase nested phase store 0 _ works job (same.to job m)))
     ∙ any_order arrays (some_cell arrays have) (round_of nested phase) (map steps_of_job order) store
     (round_apart arrays (rounds_of nested.construct nested.vars) phase fit.apart) members
 

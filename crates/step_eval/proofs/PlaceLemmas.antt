@@ -55,21 +55,21 @@ place_has_room nested phase store place first (work ∷ works) (suc i) h fit =
     omega (arith, rest)
 
 -- The same for a work that is read.
-pub fit_is_told : (nested : NestedTree) (phase : ℕ) (store : Store) (next : ℕ) (works : List Work) (place i first : ℕ) (own : Work) → i ≡ place → i < length works →
+pub fit_is_reported : (nested : NestedTree) (phase : ℕ) (store : Store) (next : ℕ) (works : List Work) (place i first : ℕ) (own : Work) → i ≡ place → i < length works →
     first ≡ next + sites_of_all (map work_of (take i works)) → own ≡ get_or works i own →
     AreFitJobs (numbered nested phase store 0 next (map work_of works)) → AreFitJobs (numbered nested phase store place first (work_of own ∷ []))
-fit_is_told nested phase store next works place i first own e h sites read fit =
+fit_is_reported nested phase store next works place i first own e h sites read fit =
     let here : 0 + i ≡ place = omega (arith, e) in
     subst (λ (w : Work). AreFitJobs (numbered nested phase store place first (work_of w ∷ []))) (sym read)
     (subst (λ f. AreFitJobs (numbered nested phase store place f (work_of (get_or works i own) ∷ []))) (sym sites)
     (subst (λ p. AreFitJobs (numbered nested phase store p (next + sites_of_all (map work_of (take i works))) (work_of (get_or works i own) ∷ []))) here
     (fit_at_place nested phase store 0 next works i own h fit)))
 
-pub job_is_told : (nested : NestedTree) (phase : ℕ) (store : Store) (next : ℕ) (works : List Work) (place i first : ℕ) (own : Work) (job : JobTree) → i ≡ place → i < length works →
+pub job_is_reported : (nested : NestedTree) (phase : ℕ) (store : Store) (next : ℕ) (works : List Work) (place i first : ℕ) (own : Work) (job : JobTree) → i ≡ place → i < length works →
     first ≡ next + sites_of_all (map work_of (take i works)) → own ≡ get_or works i own →
     job ∷ [] ≡ numbered nested phase store place first (work_of own ∷ []) →
     slice_get (numbered nested phase store 0 next (map work_of works)) place ≡ Some job
-job_is_told nested phase store next works place i first own job e h sites read is =
+job_is_reported nested phase store next works place i first own job e h sites read is =
     let before = next + sites_of_all (map work_of (take i works)) in
     let here : 0 + i ≡ place = omega (arith, e) in
     ap (slice_get (numbered nested phase store 0 next (map work_of works))) (sym e)

@@ -203,7 +203,7 @@ pub record HasJustPassed (start : Progress) (first end : ℕ) (after : Progress)
   pub before : Progress
   pub ran : RunsTo start before
   pub stage : before.stage ≡ Going
-  pub told : next_pass before ≡ Some (first, end)
+  pub reported : next_pass before ≡ Some (first, end)
   pub moved : HasMoved before.rest before after
 
 -- The machine after a run of steps, by the result. Each time it is the same job, and the invariant implies that the machine

@@ -10,9 +10,9 @@ ghost use Rattle.step_eval.specs.Moves.{begun, begun_writes, begun_sites};
 ghost use Rattle.step_eval.specs.Passes.{some_span, statement_pass};
 ghost use Rattle.step_eval.specs.Nests.{is_construct};
 ghost use Rattle.step_eval.specs.Machines.{construct_of, next_construct};
-ghost use Rattle.step_eval.specs.Inside.Frames.{statements_from, works_in, works_of, works_with, vars_in, IsMore, IsStacked, IsStackedWith, IsEnded, AreAll, HasBegun, HaveTold, Went, HasTurned, span_told, HasPassed, IsBehind, IsConstruct, IsConstructAt, HaveRun, Ran};
+ghost use Rattle.step_eval.specs.Inside.Frames.{statements_from, works_in, works_of, works_with, vars_in, IsMore, IsStacked, IsStackedWith, IsEnded, AreAll, HasBegun, HaveReported, Went, HasTurned, span_reported, HasPassed, IsBehind, IsConstruct, IsConstructAt, HaveRun, Ran};
 
-use crate::told::Told;
+use crate::reported::Reported;
 use array_eval::{Layout, LoopVar, MarkedStore, Scope, Vars, evaluate, run_assign, run_loop};
 use array_jobs::Work;
 use array_tree::{Block, Name, Stmt};
@@ -120,12 +120,12 @@ impl<'p> Frames<'p> {
         around: &Vars,
         store: &mut MarkedStore,
         next: &mut u16,
-    ) -> Result<Option<Told>, AllocError>
+    ) -> Result<Option<Reported>, AllocError>
         requires stacked { IsStacked self.old }
         requires simple { next_construct (works_of self.old around.now) ≡ None }
         requires room { next.old + rest_sites (works_of self.old around.now) ≤ 4096 }
         ensures went { IfOk result
-            (λ told. Went layout.now told (works_of self.old around.now) store.old next.old
+            (λ reported. Went layout.now reported (works_of self.old around.now) store.old next.old
             (works_of self.new around.now) store.new next.new) }
         ensures stacked { IfOk result (λ _. IsStacked self.new) }
         ensures more { IfErr result (λ _. IsMore (works_of self.old around.now)) }
@@ -133,8 +133,8 @@ impl<'p> Frames<'p> {
         match self.top {
             None => Ok(None),
             Some(top) => {
-                let told = self.go_on_in(layout, around, store, next, top)?;
-                Ok(Some(told))
+                let reported = self.go_on_in(layout, around, store, next, top)?;
+                Ok(Some(reported))
             }
         }
     }
@@ -182,12 +182,12 @@ impl<'p> Frames<'p> {
         store: &mut MarkedStore,
         next: &mut u16,
         top: Frame<'p>,
-    ) -> Result<Told, AllocError>
+    ) -> Result<Reported, AllocError>
         requires stacked { IsStackedWith top self.old }
         requires simple { next_construct (works_with top self.old around.now) ≡ None }
         requires room { next.old + rest_sites (works_with top self.old around.now) ≤ 4096 }
-        ensures told { IfOk result
-            (λ told. HaveTold layout.now told (works_with top.entry self.old around.now) store.old
+        ensures reported { IfOk result
+            (λ reported. HaveReported layout.now reported (works_with top.entry self.old around.now) store.old
             next.old (works_of self.new around.now) store.new next.new) }
         ensures stacked { OnOk result (IsStacked self.new) }
     {
@@ -201,7 +201,7 @@ impl<'p> Frames<'p> {
                 high,
             } => {
                 self.go_on_in_loop(body, turn, high)?;
-                Ok(Told::Nothing)
+                Ok(Reported::Nothing)
             }
         }
     }
@@ -217,12 +217,12 @@ impl<'p> Frames<'p> {
         block: &'p Block,
         from: usize,
         after: u16,
-    ) -> Result<Told, AllocError>
+    ) -> Result<Reported, AllocError>
         requires stacked { IsStackedWith (Statements block from after) self.old }
         requires simple { construct_of (branch_of (statements_from block.now from)) ≡ None }
         requires room { next.old + (sites_in (statements_from block.now from) + after) ≤ 4096 }
-        ensures told { IfOk result
-            (λ told. HaveTold layout.now told
+        ensures reported { IfOk result
+            (λ reported. HaveReported layout.now reported
             (works_with (Statements block.entry from after) self.old around.now)
             store.old next.old (works_of self.new around.now) store.new next.new) }
         ensures stacked { OnOk result (IsStacked self.new) }
@@ -237,7 +237,7 @@ impl<'p> Frames<'p> {
         } else {
             self.end();
             *next += after;
-            Ok(Told::Nothing)
+            Ok(Reported::Nothing)
         }
     }
 
@@ -303,13 +303,13 @@ impl<'p> Frames<'p> {
         next: &mut u16,
         statement: &'p Stmt,
         rest: Frame<'p>,
-    ) -> Result<Told, AllocError>
+    ) -> Result<Reported, AllocError>
         requires stacked { IsStackedWith rest self.old }
         requires simple { is_construct (statement_of statement.now) ≡ false }
         requires room { next.old + statement_sites_in (statement_of statement.now) ≤ 4096 }
-        ensures told { IfOk result
-            (λ told. statement_pass layout.now store.old.cells next.old
-            (statement_of statement.now) (vars_in self.old around.now) ≡ span_told told) }
+        ensures reported { IfOk result
+            (λ reported. statement_pass layout.now store.old.cells next.old
+            (statement_of statement.now) (vars_in self.old around.now) ≡ span_reported reported) }
         ensures next { OnOk result
             (next.new ≡ next.old + begun_sites layout.now store.old.cells
             (statement_of statement.now) (vars_in self.old around.now)) }
@@ -336,7 +336,7 @@ impl<'p> Frames<'p> {
             } => {
                 run_assign(layout, array, index, value, &scope, store);
                 self.top = Some(rest);
-                Ok(Told::Nothing)
+                Ok(Reported::Nothing)
             }
             Stmt::For {
                 var,
@@ -346,7 +346,7 @@ impl<'p> Frames<'p> {
                 ..
             } => {
                 self.begin_loop(var, *low, *high, body, rest)?;
-                Ok(Told::Nothing)
+                Ok(Reported::Nothing)
             }
             Stmt::If {
                 cond,
@@ -362,7 +362,7 @@ impl<'p> Frames<'p> {
             }
             Stmt::Par { .. } | Stmt::Team { .. } => {
                 self.top = Some(rest);
-                Ok(Told::Nothing)
+                Ok(Reported::Nothing)
             }
         }
     }
@@ -375,12 +375,12 @@ impl<'p> Frames<'p> {
         then_block: &'p Block,
         else_block: &'p Block,
         rest: Frame<'p>,
-    ) -> Result<Told, AllocError>
+    ) -> Result<Reported, AllocError>
         requires room { next + (sites_in (sequence_of then_block.now)
             + sites_in (sequence_of else_block.now)) ≤ 4096 }
-        ensures told { IfOk result
-            (λ told. some_span (next + sites_in (sequence_of then_block.now))
-            (sites_in (sequence_of else_block.now)) ≡ span_told told) }
+        ensures reported { IfOk result
+            (λ reported. some_span (next + sites_in (sequence_of then_block.now))
+            (sites_in (sequence_of else_block.now)) ≡ span_reported reported) }
         ensures begun { OnOk result
             (HasBegun (branch_of (sequence_of then_block.now))
             (sites_in (sequence_of else_block.now)) rest.entry self.old self.new) }
@@ -389,9 +389,9 @@ impl<'p> Frames<'p> {
         let after = sites_in_block(else_block) as u16;
         self.begin_block(then_block, after, rest)?;
         if after == 0 {
-            Ok(Told::Nothing)
+            Ok(Reported::Nothing)
         } else {
-            Ok(Told::to_skip(next + sites_in_block(then_block) as u16, after))
+            Ok(Reported::to_skip(next + sites_in_block(then_block) as u16, after))
         }
     }
 
@@ -403,10 +403,10 @@ impl<'p> Frames<'p> {
         then_block: &'p Block,
         else_block: &'p Block,
         rest: Frame<'p>,
-    ) -> Result<Told, AllocError>
+    ) -> Result<Reported, AllocError>
         requires room { next.old + sites_in (sequence_of then_block.now) ≤ 4096 }
-        ensures told { IfOk result
-            (λ told. some_span next.old (sites_in (sequence_of then_block.now)) ≡ span_told told) }
+        ensures reported { IfOk result
+            (λ reported. some_span next.old (sites_in (sequence_of then_block.now)) ≡ span_reported reported) }
         ensures next { OnOk result (next.new ≡ next.old + sites_in (sequence_of then_block.now)) }
         ensures begun { OnOk result
             (HasBegun (branch_of (sequence_of else_block.now)) 0 rest.entry self.old self.new) }
@@ -416,7 +416,7 @@ impl<'p> Frames<'p> {
         self.begin_block(else_block, 0, rest)?;
         let first = *next;
         *next += passed;
-        Ok(Told::to_skip(first, passed))
+        Ok(Reported::to_skip(first, passed))
     }
 
     // Puts a block on top with so many sites after it, and replaces the old top by this frame.

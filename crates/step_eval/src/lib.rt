@@ -11,9 +11,9 @@ mod jobs;
 mod laws;
 mod machine;
 mod nested;
+mod reported;
 mod shape;
 mod stage;
-mod told;
 
 pub use computing::compute;
 pub use found::Found;

@@ -12,8 +12,8 @@ ghost use Rattle.step_eval.specs.Inside.Parts.{while_going, Advanced, IsLayoutOf
 use crate::found::Found;
 use crate::frames::Frames;
 use crate::nested::Nested;
+use crate::reported::Reported;
 use crate::stage::Stage;
-use crate::told::Told;
 use array_eval::{Layout, MarkedStore, Overlay};
 use array_jobs::{Job, Piece};
 use array_tree::Stmt;
@@ -261,20 +261,20 @@ fn advance<'p>(
             Ok(Step::Nest(Found::Nest(nested)))
         }
         None => {
-            let told = frames.go_on(layout, &job.vars, store, next)?;
-            Ok(step_by(told))
+            let reported = frames.go_on(layout, &job.vars, store, next)?;
+            Ok(step_by(reported))
         }
     }
 }
 
 // The result of a step that hands out no construct.
-fn step_by<'p>(told: Option<Told>) -> Step<Found<'p>>
-    ensures { result ≡ step_by told }
+fn step_by<'p>(reported: Option<Reported>) -> Step<Found<'p>>
+    ensures { result ≡ step_by reported }
 {
-    match told {
+    match reported {
         None => Step::Finished,
-        Some(Told::Nothing) => Step::More,
-        Some(Told::Skips { first, end }) => Step::Nest(Found::Pass { first, end }),
+        Some(Reported::Nothing) => Step::More,
+        Some(Reported::Skips { first, end }) => Step::Nest(Found::Pass { first, end }),
     }
 }
 

@@ -16,8 +16,8 @@ const TWO_SIDES: &[u8] =
 #[test]
 fn a_side_that_is_taken_registers(rt: HostRuntime) -> Result<(), Fail> {
     let text = b"array a[1]; if 1 { par { { a[0] = 1; } } }";
-    let told = b"a = 1\ntransfers 2\n0 h0 register s1 under s0\n1 h0 unregister s1\n";
-    serve(&rt, RUN, text, Status::Done, told, b"")
+    let reported = b"a = 1\ntransfers 2\n0 h0 register s1 under s0\n1 h0 unregister s1\n";
+    serve(&rt, RUN, text, Status::Done, reported, b"")
 }
 
 #[test]
@@ -35,13 +35,13 @@ fn a_side_that_is_not_taken_is_skipped(rt: HostRuntime) -> Result<(), Fail> {
 
 #[test]
 fn the_outermost_sites_of_a_side_are_skipped(rt: HostRuntime) -> Result<(), Fail> {
-    let told = b"a = 0 4
+    let reported = b"a = 0 4
 transfers 3
 0 h0 skip s1
 1 h0 register s3 under s0
 2 h0 unregister s3
 ";
-    serve(&rt, RUN, TWO_SIDES, Status::Done, told, b"")
+    serve(&rt, RUN, TWO_SIDES, Status::Done, reported, b"")
 }
 
 #[test]
@@ -55,8 +55,8 @@ transfers 5
 4 h0 skip s3
 ";
     let audited = input(rt.alloc(), TWO_SIDES, output)?;
-    let told = b"illegal: entry 5, s1 isn't skipped\n";
-    serve(&rt, ONE, &audited, Status::Illegal, told, b"")
+    let reported = b"illegal: entry 5, s1 isn't skipped\n";
+    serve(&rt, ONE, &audited, Status::Illegal, reported, b"")
 }
 
 // Two sides of one site each, which write nothing, and the same with the sides taken the other way.
@@ -66,11 +66,11 @@ const OTHER: &[u8] =
     b"array a[1]; if a[0] == 0 { par { { } { } } } else { team i in 0..4 by 2 { } }\n";
 
 #[test]
-fn an_audit_tells_the_sides_apart(rt: HostRuntime) -> Result<(), Fail> {
+fn an_audit_distinguishes_the_sides(rt: HostRuntime) -> Result<(), Fail> {
     let run = serve_by(&rt, RUN, EITHER, 4096, 4096)?;
     let audited = input(rt.alloc(), OTHER, run.out.bytes())?;
-    let told = b"illegal: entry 3, s1 is skipped\n";
-    serve(&rt, ONE, &audited, Status::Illegal, told, b"")
+    let reported = b"illegal: entry 3, s1 is skipped\n";
+    serve(&rt, ONE, &audited, Status::Illegal, reported, b"")
 }
 
 // A team with pools inside.
@@ -102,7 +102,7 @@ if a[0] {
 
 #[test]
 fn each_choice_skips_its_other_side(rt: HostRuntime) -> Result<(), Fail> {
-    let told = b"a = 1 5 2 3
+    let reported = b"a = 1 5 2 3
 transfers 6
 0 h0 skip s4
 1 h0 skip s1
@@ -111,7 +111,7 @@ transfers 6
 4 h0 register s3 under s0
 5 h0 unregister s3
 ";
-    serve(&rt, RUN, INNER, Status::Done, told, b"")
+    serve(&rt, RUN, INNER, Status::Done, reported, b"")
 }
 
 // A choice in each turn of a loop.
@@ -123,7 +123,7 @@ for i in 0..4 {
 
 #[test]
 fn each_turn_chooses(rt: HostRuntime) -> Result<(), Fail> {
-    let told = b"a = 0 1 0 1
+    let reported = b"a = 0 1 0 1
 b = 1 2 0 0 3 4 0 0
 transfers 12
 0 h0 skip s1
@@ -139,7 +139,7 @@ transfers 12
 10 h0 register s7 under s0
 11 h0 unregister s7
 ";
-    serve(&rt, RUN, TURNS, Status::Done, told, b"")
+    serve(&rt, RUN, TURNS, Status::Done, reported, b"")
 }
 
 // Choices in branches.
@@ -152,7 +152,7 @@ par {
 
 #[test]
 fn branches_choose(rt: HostRuntime) -> Result<(), Fail> {
-    let told = b"a = 1 2 3 0
+    let reported = b"a = 1 2 3 0
 transfers 6
 0 h0 register s1 under s0
 1 h0 skip s3
@@ -161,7 +161,7 @@ transfers 6
 4 h0 skip s4
 5 h0 unregister s1
 ";
-    serve(&rt, RUN, BRANCHES, Status::Done, told, b"")
+    serve(&rt, RUN, BRANCHES, Status::Done, reported, b"")
 }
 
 // A choice in each phase; two of them read cells that an earlier phase wrote.

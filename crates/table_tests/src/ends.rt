@@ -119,7 +119,10 @@ fn making_meets_no_fault_of_the_source(rt: HostRuntime) -> Result<(), Fail> {
 }
 
 // Runs a text that spells no program, with a stream of errors that fails at this call.
-fn run_telling<R: AllocGlobal + Threads + Wait + Sync>(rt: &R, call: u32) -> Result<Served, Fail> {
+fn run_reporting<R: AllocGlobal + Threads + Wait + Sync>(
+    rt: &R,
+    call: u32,
+) -> Result<Served, Fail> {
     let source = MemSource::new(rt.alloc(), b"array 4;", 8, &[])?;
     let out = open(rt.alloc(), 4096)?;
     serve_into(
@@ -132,18 +135,18 @@ fn run_telling<R: AllocGlobal + Threads + Wait + Sync>(rt: &R, call: u32) -> Res
 }
 
 // Whether so many bytes of a syntax error are reported, and nothing is written.
-fn is_told_in_part(served: &Served, count: usize) -> bool {
-    let told = b"syntax: unexpected at byte 6\n".as_slice();
+fn is_reported_in_part(served: &Served, count: usize) -> bool {
+    let reported = b"syntax: unexpected at byte 6\n".as_slice();
     let err = served.err.bytes();
-    let cut = err.len() == count && told.starts_with(err);
+    let cut = err.len() == count && reported.starts_with(err);
     served.status == Status::Syntax && cut && served.out.bytes().is_empty()
 }
 
 #[test]
 fn an_error_stream_that_fails_changes_no_status(rt: HostRuntime) -> Result<(), Fail> {
     for call in 1..7u32 {
-        let served = run_telling(&rt, call)?;
-        assert!(rt; is_told_in_part(&served, (call as usize - 1) * 5));
+        let served = run_reporting(&rt, call)?;
+        assert!(rt; is_reported_in_part(&served, (call as usize - 1) * 5));
     }
     Ok(())
 }

@@ -32,7 +32,7 @@ fn line_of(alloc: Global, cause: &str) -> Result<String, Fail> {
 }
 
 // Audits the input on two harts, and compares the line after `illegal: entry `.
-fn is_told<R: AllocGlobal + Abort + Threads + Wait + Sync>(
+fn is_reported<R: AllocGlobal + Abort + Threads + Wait + Sync>(
     rt: &R,
     input: &[u8],
     cause: &str,
@@ -42,7 +42,7 @@ fn is_told<R: AllocGlobal + Abort + Threads + Wait + Sync>(
 }
 
 // The same for each journal after the program and its arrays.
-fn told<R: AllocGlobal + Abort + Threads + Wait + Sync>(
+fn reported<R: AllocGlobal + Abort + Threads + Wait + Sync>(
     rt: &R,
     program: &[u8],
     arrays: &[u8],
@@ -50,7 +50,7 @@ fn told<R: AllocGlobal + Abort + Threads + Wait + Sync>(
 ) -> Result<(), Fail> {
     for (journal, cause) in rows {
         let input = input(rt.alloc(), program, arrays, journal)?;
-        is_told(rt, &input, cause)?;
+        is_reported(rt, &input, cause)?;
     }
     Ok(())
 }
@@ -97,7 +97,7 @@ const OF_BRANCHES: &[(&str, &str)] = &[
 
 #[test]
 fn what_branches_cannot_do_is_refused(rt: HostRuntime) -> Result<(), Fail> {
-    told(&rt, BRANCHES, b"a = 1 2 0 0\n", OF_BRANCHES)
+    reported(&rt, BRANCHES, b"a = 1 2 0 0\n", OF_BRANCHES)
 }
 
 const OF_NESTED: &[(&str, &str)] = &[
@@ -114,5 +114,5 @@ const OF_NESTED: &[(&str, &str)] = &[
 
 #[test]
 fn what_nested_sites_cannot_do_is_refused(rt: HostRuntime) -> Result<(), Fail> {
-    told(&rt, NESTED, b"a = 5 6 0 9\n", OF_NESTED)
+    reported(&rt, NESTED, b"a = 5 6 0 9\n", OF_NESTED)
 }

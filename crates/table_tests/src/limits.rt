@@ -17,8 +17,8 @@ fn a_program_has_a_limit(rt: HostRuntime) -> Result<(), Fail> {
 fn an_audit_has_a_limit(rt: HostRuntime) -> Result<(), Fail> {
     let past = vec![in rt.alloc(); b' '; 4194305]?;
     let (most, _) = past.split_at(4194304);
-    let told = b"syntax: no line %%\n";
-    serve(&rt, AUDIT, most, Status::Syntax, b"", told)?;
+    let reported = b"syntax: no line %%\n";
+    serve(&rt, AUDIT, most, Status::Syntax, b"", reported)?;
     serve(&rt, AUDIT, &past, Status::TooLong, b"", b"too long\n")
 }
 

@@ -32,28 +32,28 @@ team i in 0..6 by 3 { a[i] = i % 2; } barrier { if a[i / 2] { par { { b[i] = 1; 
 
 #[test]
 fn a_member_goes_on_behind_those_below_it(rt: HostRuntime) -> Result<(), Fail> {
-    let told = b"a = 1 2 3 4 5 6
+    let reported = b"a = 1 2 3 4 5 6
 b = 10 10 20 20 30 30
 transfers 2
 0 h0 register s1 under s0
 1 h0 unregister s1
 ";
-    serve(&rt, ONE, TWO_STEPS, Status::Done, told, b"")
+    serve(&rt, ONE, TWO_STEPS, Status::Done, reported, b"")
 }
 
 #[test]
 fn pieces_that_cross_are_refused(rt: HostRuntime) -> Result<(), Fail> {
     let text =
         b"array a[6]; array b[6]; team i in 0..6 by 3 { a[i] = i + 1; } barrier { b[i] = a[5 - i]; }";
-    let told = b"refused: crossing on a[4] at line 1\n";
-    serve(&rt, ONE, text, Status::Refused, b"", told)
+    let reported = b"refused: crossing on a[4] at line 1\n";
+    serve(&rt, ONE, text, Status::Refused, b"", reported)
 }
 
 #[test]
-fn what_run_refuses_is_told_first(rt: HostRuntime) -> Result<(), Fail> {
+fn what_run_refuses_is_reported_first(rt: HostRuntime) -> Result<(), Fail> {
     let text = b"array a[2];\nteam i in 0..2 by 2 { a[0] = i; } barrier { a[1 - i] = i; }";
-    let told = b"refused: overlap on a[0] at line 2\n";
-    serve(&rt, ONE, text, Status::Refused, b"", told)
+    let reported = b"refused: overlap on a[0] at line 2\n";
+    serve(&rt, ONE, text, Status::Refused, b"", reported)
 }
 
 // Whether members that overtake write these array lines, on so many harts.

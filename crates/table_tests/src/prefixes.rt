@@ -29,8 +29,8 @@ fn is_served(served: &Served, output: Option<&[u8]>) -> bool {
 
 // Whether a syntax error is reported, and nothing is written.
 fn is_syntax_fault(served: &Served) -> bool {
-    let told = served.err.bytes().starts_with(b"syntax: ");
-    served.status == Status::Syntax && told && served.out.bytes().is_empty()
+    let reported = served.err.bytes().starts_with(b"syntax: ");
+    served.status == Status::Syntax && reported && served.out.bytes().is_empty()
 }
 
 #[test]

@@ -112,7 +112,7 @@ fn status_of_run<R: AllocGlobal + Threads + Wait + Sync>(
 }
 
 // Whether the allocation failure of the words is reported, with the number 8.
-fn tells_no_memory(err: &mut MemSink) -> bool {
+fn reports_no_memory(err: &mut MemSink) -> bool {
     let status = no_memory_for_words(err);
     status.number() == 8 && err.bytes() == b"no memory\n".as_slice()
 }
@@ -123,6 +123,6 @@ fn too_long_and_no_memory_are_5_and_8(rt: HostRuntime) -> Result<(), Fail> {
     let status = status_of_run(&rt, &past)?;
     assert!(rt; status == Status::TooLong && status.number() == 5);
     let mut err = open(rt.alloc(), 8)?;
-    assert!(rt; tells_no_memory(&mut err));
+    assert!(rt; reports_no_memory(&mut err));
     Ok(())
 }

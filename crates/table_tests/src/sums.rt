@@ -28,32 +28,32 @@ par { { p_sum[0] = p_sum[0] + 9223372036854775807; q_sum[0] = q_sum[0] + 1; } { 
 
 #[test]
 fn branches_add_into_one_cell(rt: HostRuntime) -> Result<(), Fail> {
-    let told = b"t_sum = 7\ntransfers 2\n0 h0 register s1 under s0\n1 h0 unregister s1\n";
-    serve(&rt, ONE, TWO_ADDS, Status::Done, told, b"")
+    let reported = b"t_sum = 7\ntransfers 2\n0 h0 register s1 under s0\n1 h0 unregister s1\n";
+    serve(&rt, ONE, TWO_ADDS, Status::Done, reported, b"")
 }
 
 #[test]
 fn run_refuses_what_tally_takes(rt: HostRuntime) -> Result<(), Fail> {
-    let told = b"refused: overlap on t_sum[0] at line 1\n";
-    serve(&rt, RUN, TWO_ADDS, Status::Refused, b"", told)
+    let reported = b"refused: overlap on t_sum[0] at line 1\n";
+    serve(&rt, RUN, TWO_ADDS, Status::Refused, b"", reported)
 }
 
 #[test]
 fn members_add_what_an_earlier_phase_wrote(rt: HostRuntime) -> Result<(), Fail> {
-    let told = b"a = 0 1 4 9 16 25 36 49
+    let reported = b"a = 0 1 4 9 16 25 36 49
 q_sum = 140
 transfers 2
 0 h0 register s1 under s0
 1 h0 unregister s1
 ";
-    serve(&rt, ONE, SQUARES, Status::Done, told, b"")
+    serve(&rt, ONE, SQUARES, Status::Done, reported, b"")
 }
 
 #[test]
 fn members_have_uneven_parts(rt: HostRuntime) -> Result<(), Fail> {
     let text = b"array q_sum[1]; team i in 0..65 by 4 { q_sum[0] = q_sum[0] + 1; }";
-    let told = b"q_sum = 65\ntransfers 2\n0 h0 register s1 under s0\n1 h0 unregister s1\n";
-    serve(&rt, ONE, text, Status::Done, told, b"")
+    let reported = b"q_sum = 65\ntransfers 2\n0 h0 register s1 under s0\n1 h0 unregister s1\n";
+    serve(&rt, ONE, text, Status::Done, reported, b"")
 }
 
 // Whether a tally writes these array lines, on so many harts.
@@ -94,30 +94,30 @@ fn sums_wrap(rt: HostRuntime) -> Result<(), Fail> {
 }
 
 #[test]
-fn what_is_no_add_is_told(rt: HostRuntime) -> Result<(), Fail> {
+fn what_is_no_add_is_reported(rt: HostRuntime) -> Result<(), Fail> {
     let text = b"array q_sum[1]; par { { q_sum[0] = 1; } }";
-    let told = b"refused: accumulation at line 1\n";
-    serve(&rt, ONE, text, Status::Refused, b"", told)
+    let reported = b"refused: accumulation at line 1\n";
+    serve(&rt, ONE, text, Status::Refused, b"", reported)
 }
 
 #[test]
-fn a_name_that_rows_need_is_told(rt: HostRuntime) -> Result<(), Fail> {
+fn a_name_that_rows_need_is_reported(rt: HostRuntime) -> Result<(), Fail> {
     let text = b"array q_sum[1]; array q_sum_rows[1]; par { { q_sum[0] = q_sum[0] + 1; } }";
-    let told = b"refused: name taken at line 1\n";
-    serve(&rt, ONE, text, Status::Refused, b"", told)
+    let reported = b"refused: name taken at line 1\n";
+    serve(&rt, ONE, text, Status::Refused, b"", reported)
 }
 
 #[test]
-fn the_first_of_three_refusals_is_told(rt: HostRuntime) -> Result<(), Fail> {
+fn the_first_of_three_refusals_is_reported(rt: HostRuntime) -> Result<(), Fail> {
     let text = b"array q_sum[1]; par { { q_sum[1] = 1; } }";
-    let told = b"refused: index 1 outside 1 cells at line 1\n";
-    serve(&rt, ONE, text, Status::Refused, b"", told)?;
+    let reported = b"refused: index 1 outside 1 cells at line 1\n";
+    serve(&rt, ONE, text, Status::Refused, b"", reported)?;
     // With a row for each branch there are too many cells. The line is the array's own.
     let text = b"array q_sum[4000];\npar { { q_sum[0] = q_sum[0] + 1; } { } }";
-    let told = b"refused: length 8000 at line 1\n";
-    serve(&rt, ONE, text, Status::Refused, b"", told)?;
+    let reported = b"refused: length 8000 at line 1\n";
+    serve(&rt, ONE, text, Status::Refused, b"", reported)?;
     // Other overlaps are refused as before.
     let text = b"array a[1];\npar { { a[0] = 1; } { a[0] = 2; } }";
-    let told = b"refused: overlap on a[0] at line 2\n";
-    serve(&rt, ONE, text, Status::Refused, b"", told)
+    let reported = b"refused: overlap on a[0] at line 2\n";
+    serve(&rt, ONE, text, Status::Refused, b"", reported)
 }

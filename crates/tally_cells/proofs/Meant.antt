@@ -24,14 +24,14 @@ meant_ranges program meaning =
 pub kept_at : (program spread : ProgramTree) → HasMeaning program → IsNarrow program → spread_fault_of program ≡ None → spread ≡ spread_of program → IsTallyKept program spread
 kept_at program spread meaning narrow sound same = subst (IsTallyKept program) (sym same) (tally_kept program meaning narrow sound)
 
-pub first_told : (program : ProgramTree) (line : ℕ) → unshaped 0 program.body ≡ Some line → spread_fault_of program ≡ Some (UnshapedAt line)
-first_told program line here = rw here
+pub first_reported : (program : ProgramTree) (line : ℕ) → unshaped 0 program.body ≡ Some line → spread_fault_of program ≡ Some (UnshapedAt line)
+first_reported program line here = rw here
 
-pub second_told : (program : ProgramTree) (line : ℕ) → unshaped 0 program.body ≡ None → taken_at program ≡ Some line → spread_fault_of program ≡ Some (NameTakenAt line)
-second_told program line none here = rw (none, here)
+pub second_reported : (program : ProgramTree) (line : ℕ) → unshaped 0 program.body ≡ None → taken_at program ≡ Some line → spread_fault_of program ≡ Some (NameTakenAt line)
+second_reported program line none here = rw (none, here)
 
-pub none_told : (program : ProgramTree) → unshaped 0 program.body ≡ None → taken_at program ≡ None → spread_fault_of program ≡ None
-none_told program none free = rw (none, free)
+pub none_reported : (program : ProgramTree) → unshaped 0 program.body ≡ None → taken_at program ≡ None → spread_fault_of program ≡ None
+none_reported program none free = rw (none, free)
 
 -- The value of an add of narrow parts is narrow.
 pub narrow_add : (x : List ℕ) (e value v : Expression) → added x e value ≡ Some v → IsNarrowExpression e → IsNarrowExpression v → IsNarrowExpression value

@@ -4,6 +4,6 @@ use Rattle.tally_cells.specs.declared.fault.TallyFault.TheVariants.{Unshaped, Na
 use Rattle.spread_laws.specs.Faults.{SpreadFault, UnshapedAt, NameTakenAt}
 
 -- The code's error for a fault, with the same line.
-abbrev pub told_of : SpreadFault → TallyFault
-told_of (UnshapedAt line) = Unshaped line
-told_of (NameTakenAt line) = NameTaken line
+abbrev pub reported_of : SpreadFault → TallyFault
+reported_of (UnshapedAt line) = Unshaped line
+reported_of (NameTakenAt line) = NameTaken line

@@ -5,7 +5,7 @@ ghost use Rattle.array_tree.specs.Trees.{declarations_of, program_of};
 ghost use Rattle.spread_laws.specs.Faults.{spread_fault_of};
 ghost use Rattle.spread_laws.specs.Spread.{spread_of};
 ghost use Rattle.spread_laws.specs.Served.{HasMeaning, IsTallyKept};
-ghost use Rattle.tally_cells.specs.FaultOf.{told_of};
+ghost use Rattle.tally_cells.specs.FaultOf.{reported_of};
 
 use crate::copies::copy_declaration;
 use crate::fault::TallyFault;
@@ -42,7 +42,7 @@ pub fn spread(alloc: Global, program: &Program) -> Result<Program, TallyFault>
     ensures spread { IfOk result (λ t. program_of t ≡ spread_of (program_of program.now)) }
     ensures kept { IfOk result (λ t. IsTallyKept (program_of program.now) (program_of t)) }
     ensures fault { IfErr result (λ fault. (fault ≡ TallyFault.Memory)
-        ⊎ (option_map told_of (spread_fault_of (program_of program.now)) ≡ Some fault)) }
+        ⊎ (option_map reported_of (spread_fault_of (program_of program.now)) ≡ Some fault)) }
     ensures sound { OnOk result (spread_fault_of (program_of program.now) ≡ None) }
 {
     if let Some(line) = unshaped_in_block(0, &program.body) {

@@ -1,5 +1,5 @@
 //! Pieces that two hands bring to one team, in any order.
-ghost use Rattle.claim_words.specs.Seats.{IsOf, kin};
+ghost use Rattle.claim_words.specs.Seats.{IsOf, identity};
 ghost use Rattle.loop_team.specs.Rows.{RowsFit};
 
 use crate::hands::shared_team;
@@ -243,7 +243,7 @@ fn holds_of_hands<'x, 'p: 'x, R: Wait>(
     jobs: &[Job<'p>],
     look: Look,
 ) -> Result<bool, Fail>
-    requires of { IsOf table.now (kin first.old) × IsOf table.now (kin second.old) }
+    requires of { IsOf table.now (identity first.old) × IsOf table.now (identity second.old) }
     requires rows { RowsFit table.now.counts.items 0 shared.now }
 {
     let mut one = TeamHand::new(shared, table, first, 0);

@@ -1,10 +1,10 @@
 //! Teams that harts share, by one hand.
-ghost use Rattle.claim_words.specs.Seats.{IsOf, kin};
+ghost use Rattle.claim_words.specs.Seats.{IsOf, identity};
 ghost use Rattle.loop_team.specs.Rows.{RowsFit};
 
 use crate::samples::{
     CONTEXTS_THEN_MEMBERS, MEMBERS_THEN_WISH, NONE_OF_FOUR, NOTHING, THREE_OF_FOUR, begun, finds,
-    gives, gives_nothing, has_room, one_of_two_leaves, opened_by, team_of, tells_each,
+    gives, gives_nothing, has_room, one_of_two_leaves, opened_by, returns_each_receipt, team_of,
 };
 use crate::tables::table_of;
 use array_eval::Overlay;
@@ -33,7 +33,7 @@ enum Look {
     Contexts,
     Once,
     Nothing,
-    Tells,
+    Receipts,
 }
 
 // Whether this holds of a hand, beside the jobs of the first phase.
@@ -50,7 +50,7 @@ fn holds_of<'a, 'r, 'p, R: Wait + 'a>(
         Look::Contexts => contexts_go_first(rt, hand, alloc, jobs),
         Look::Once => Ok(is_handed_out_once(rt, hand)),
         Look::Nothing => leaves_nothing(rt, hand, alloc, jobs),
-        Look::Tells => Ok(tells_all(rt, hand)),
+        Look::Receipts => Ok(returns_all_receipts(rt, hand)),
     }
 }
 
@@ -64,7 +64,7 @@ fn holds_of_hand<'x, 'p: 'x, R: Wait>(
     jobs: &[Job<'p>],
     look: Look,
 ) -> Result<bool, Fail>
-    requires of { IsOf table.now (kin seat.old) }
+    requires of { IsOf table.now (identity seat.old) }
     requires rows { RowsFit table.now.counts.items 0 shared.now }
 {
     let mut hand = TeamHand::new(shared, table, seat, 0);
@@ -81,7 +81,7 @@ fn holds_of_team<'p, R: Wait>(
     jobs: &[Job<'p>],
     look: Look,
 ) -> Result<bool, Fail>
-    requires { IsOf table.now (kin seat.old) }
+    requires { IsOf table.now (identity seat.old) }
 {
     if !rows_fit(table, 0, shared.nested()) {
         return Err(Fail::new("other rows"));
@@ -168,7 +168,7 @@ fn members_go_first<'a, 'r, 'p, R: Wait + 'a>(
 }
 
 #[test]
-fn a_hand_answers_as_the_team_does(rt: HostRuntime) -> Result<(), Fail> {
+fn a_hand_returns_what_the_team_returns(rt: HostRuntime) -> Result<(), Fail> {
     assert!(rt; holds(&rt, rt.alloc(), Look::Order)?);
     Ok(())
 }
@@ -285,17 +285,20 @@ fn nothing_is_left_of_a_team_that_is_handed_out(rt: HostRuntime) -> Result<(), F
 
 // Whether a hand on a team of three members returns its site, and receipts with each call that a scheduler gets, before and
 // after its team is handed out.
-fn tells_all<'a, 'r, 'p, R: Wait + 'a>(rt: &'a R, hand: &mut TeamHand<'a, 'r, 'p, R>) -> bool {
+fn returns_all_receipts<'a, 'r, 'p, R: Wait + 'a>(
+    rt: &'a R,
+    hand: &mut TeamHand<'a, 'r, 'p, R>,
+) -> bool {
     let shape = (hand.site(), hand.shared.nested().members()) == (1, 3);
-    let before = tells_each(hand, rt);
+    let before = returns_each_receipt(hand, rt);
     let out = hands_out_failed(rt, hand);
-    let after = tells_each(hand, rt);
+    let after = returns_each_receipt(hand, rt);
     shape && before && out && after
 }
 
 #[test]
-fn a_hand_tells_what_it_hears(rt: HostRuntime) -> Result<(), Fail> {
-    assert!(rt; holds(&rt, rt.alloc(), Look::Tells)?);
+fn a_hand_returns_a_receipt_of_each_call(rt: HostRuntime) -> Result<(), Fail> {
+    assert!(rt; holds(&rt, rt.alloc(), Look::Receipts)?);
     Ok(())
 }
 

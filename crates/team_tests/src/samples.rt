@@ -6,7 +6,7 @@ use array_tree::Program;
 use contexts::Paused;
 use lithe_barrier::Arrival;
 use loop_team::{Team, TeamWork};
-use sample_programs::{Answer, TOLD, first_construct, tells, waiting};
+use sample_programs::{Answer, TOLD, first_construct, receipts, waiting};
 use sched_api::{Next, Scheduler};
 use std::alloc::Global;
 use std::test::Fail;
@@ -107,8 +107,8 @@ pub fn finds<'p, S: Scheduler<Ctx = TeamWork<'p>>>(
 }
 
 /// Whether a scheduler's receipts have each call that it gets.
-pub fn tells_each<S: Scheduler>(scheduler: &mut S, hold: S::Hold) -> bool {
-    tells(scheduler, hold) == TOLD
+pub fn returns_each_receipt<S: Scheduler>(scheduler: &mut S, hold: S::Hold) -> bool {
+    receipts(scheduler, hold) == TOLD
 }
 
 // The job of a member that begins. Returns a failure if anything else was found.

@@ -1,6 +1,6 @@
 //! Two hands on one team, each with a seat of its own.
 ghost use Rattle.std.specs.Prelude.{◌≡◌, ◌≤◌, map, vec_len};
-ghost use Rattle.claim_words.specs.Seats.{AreAll, IsOf, kin};
+ghost use Rattle.claim_words.specs.Seats.{AreAll, IsOf, identity};
 ghost use Rattle.loop_team.specs.Rows.{RowsFit};
 
 use crate::hands::shared_team;
@@ -25,9 +25,9 @@ fn takes_up<'a, 'p, R: Wait + 'a>(
     member: (u8, u8),
     pieces: &mut Vec<Piece<'p>>,
 ) -> Result<(), Fail>
-    requires of { IsOf table.now (kin seat.old) }
+    requires of { IsOf table.now (identity seat.old) }
     requires rows { RowsFit table.now.counts.items 0 shared.now }
-    ensures { kin seat.new ≡ kin seat.old }
+    ensures { identity seat.new ≡ identity seat.old }
 {
     match TeamHand::new(shared, table, seat, 0).enter(rt) {
         Next::Run(TeamWork::Begin(job)) if (job.phase, job.place) == member => {
@@ -44,9 +44,9 @@ fn finds_nothing<'a, 'p, R: Wait + 'a>(
     table: &'a ClaimTable,
     seat: &mut ClaimSeat,
 ) -> bool
-    requires of { IsOf table.now (kin seat.old) }
+    requires of { IsOf table.now (identity seat.old) }
     requires rows { RowsFit table.now.counts.items 0 shared.now }
-    ensures { kin seat.new ≡ kin seat.old }
+    ensures { identity seat.new ≡ identity seat.old }
 {
     let mut hand = TeamHand::new(shared, table, seat, 0);
     matches!(hand.enter(rt), Next::Nothing)
@@ -60,9 +60,9 @@ fn is_kept<'a, 'p, R: Wait + 'a>(
     seat: &mut ClaimSeat,
     pieces: &mut Vec<Piece<'p>>,
 ) -> Result<bool, Fail>
-    requires of { IsOf table.now (kin seat.old) }
+    requires of { IsOf table.now (identity seat.old) }
     requires rows { RowsFit table.now.counts.items 0 shared.now }
-    ensures { kin seat.new ≡ kin seat.old }
+    ensures { identity seat.new ≡ identity seat.old }
 {
     let Some(piece) = pieces.pop() else {
         return Err(Fail::new("no piece"));
@@ -82,9 +82,9 @@ fn share_phase<'a, 'p, R: Wait + 'a>(
     alloc: Global,
     phase: u8,
 ) -> Result<bool, Fail>
-    requires of { IsOf table.now (kin one.old) × IsOf table.now (kin other.old) }
+    requires of { IsOf table.now (identity one.old) × IsOf table.now (identity other.old) }
     requires rows { RowsFit table.now.counts.items 0 shared.now }
-    ensures { (kin one.new ≡ kin one.old) × (kin other.new ≡ kin other.old) }
+    ensures { (identity one.new ≡ identity one.old) × (identity other.new ≡ identity other.old) }
 {
     let mut pieces = Vec::new(alloc);
     takes_up(rt, shared, table, one, alloc, (phase, 0), &mut pieces)?;
@@ -105,9 +105,9 @@ fn gives_both<'a, 'p, R: Wait + 'a>(
     table: &'a ClaimTable,
     seat: &mut ClaimSeat,
 ) -> Result<bool, Fail>
-    requires of { IsOf table.now (kin seat.old) }
+    requires of { IsOf table.now (identity seat.old) }
     requires rows { RowsFit table.now.counts.items 0 shared.now }
-    ensures { kin seat.new ≡ kin seat.old }
+    ensures { identity seat.new ≡ identity seat.old }
 {
     match TeamHand::new(shared, table, seat, 0).take_out(rt) {
         Some(team) => Ok(gives(team, BOTH_PHASES.as_slice())),
@@ -124,9 +124,9 @@ fn share_team<'a, 'p, R: Wait + 'a>(
     other: &mut ClaimSeat,
     alloc: Global,
 ) -> Result<bool, Fail>
-    requires of { IsOf table.now (kin one.old) × IsOf table.now (kin other.old) }
+    requires of { IsOf table.now (identity one.old) × IsOf table.now (identity other.old) }
     requires rows { RowsFit table.now.counts.items 0 shared.now }
-    ensures { (kin one.new ≡ kin one.old) × (kin other.new ≡ kin other.old) }
+    ensures { (identity one.new ≡ identity one.old) × (identity other.new ≡ identity other.old) }
 {
     let first = share_phase(rt, shared, table, one, other, alloc, 0)?;
     let second = share_phase(rt, shared, table, other, one, alloc, 1)?;
@@ -142,10 +142,10 @@ fn share_by_all<'a, 'p, R: Wait + 'a>(
     seats: &mut Vec<ClaimSeat>,
     alloc: Global,
 ) -> Result<bool, Fail>
-    requires all { AreAll table.now (map kin seats.old.items) }
+    requires all { AreAll table.now (map identity seats.old.items) }
     requires two { vec_len seats.old ≡ 2 }
     requires rows { RowsFit table.now.counts.items 0 shared.now }
-    ensures { map kin seats.new.items ≡ map kin seats.old.items }
+    ensures { map identity seats.new.items ≡ map identity seats.old.items }
 {
     let Some(mut other) = seats.pop() else {
         unreachable!()

@@ -3,7 +3,7 @@
 use crate::samples::{
     ALL_PHASES, CONTEXTS_THEN_MEMBERS, MEMBERS, MEMBERS_THEN_WISH, THIRD_PHASE, THREE_OF_FOUR,
     THREE_PHASES, begun, entered, finds, gives, gives_nothing, has_room, one_of_two_leaves,
-    opened_by, team_of, tells_each,
+    opened_by, returns_each_receipt, team_of,
 };
 use array_eval::Overlay;
 use array_jobs::{Job, Piece};
@@ -26,7 +26,7 @@ enum Look {
     Contexts,
     Stranger,
     Failed,
-    Tells,
+    Receipts,
 }
 
 // Whether this holds of a team, beside the jobs of its first phase.
@@ -39,7 +39,7 @@ fn holds_of<'p>(team: Team<'p>, alloc: Global, jobs: &[Job<'p>], look: Look) -> 
         Look::Contexts => contexts_go_first(team, alloc, jobs),
         Look::Stranger => turns_away(team, alloc, jobs),
         Look::Failed => Ok(fails(team)),
-        Look::Tells => Ok(tells_all(team)),
+        Look::Receipts => Ok(returns_all_receipts(team)),
     }
 }
 
@@ -254,14 +254,14 @@ fn a_failed_team_is_over(rt: HostRuntime) -> Result<(), Fail> {
 }
 
 // Whether a team of three members returns its site, and receipts with each call that a scheduler gets.
-fn tells_all(mut team: Team) -> bool {
+fn returns_all_receipts(mut team: Team) -> bool {
     let shape = (team.site(), team.nested().members()) == (1, 3);
-    let told = tells_each(&mut team, ());
+    let told = returns_each_receipt(&mut team, ());
     shape && told
 }
 
 #[test]
-fn a_team_tells_what_it_hears(rt: HostRuntime) -> Result<(), Fail> {
-    assert!(rt; holds(rt.alloc(), TWO_PHASES, Look::Tells)?);
+fn a_team_returns_a_receipt_of_each_call(rt: HostRuntime) -> Result<(), Fail> {
+    assert!(rt; holds(rt.alloc(), TWO_PHASES, Look::Receipts)?);
     Ok(())
 }

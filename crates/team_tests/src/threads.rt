@@ -1,6 +1,6 @@
 //! Two harts on threads that run one team, each by a hand with a seat of its own.
 ghost use Rattle.std.specs.Prelude.{◌≡◌};
-ghost use Rattle.claim_words.specs.Seats.{IsOf, kin};
+ghost use Rattle.claim_words.specs.Seats.{IsOf, identity};
 ghost use Rattle.loop_team.specs.Hands.{IsSameHand};
 ghost use Rattle.loop_team.specs.Rows.{RowsFit};
 
@@ -78,9 +78,9 @@ fn run_by_seat<'a, 'p, R: Wait + 'a>(
     begun: &Begun,
     seat: &mut ClaimSeat,
 )
-    requires of { IsOf table.now (kin seat.old) }
+    requires of { IsOf table.now (identity seat.old) }
     requires rows { RowsFit table.now.counts.items 0 shared.now }
-    ensures { kin seat.new ≡ kin seat.old }
+    ensures { identity seat.new ≡ identity seat.old }
 {
     let mut hand = TeamHand::new(shared, table, seat, 0);
     run_members(rt, &mut hand, alloc, begun);
@@ -93,7 +93,7 @@ struct Runner<'x, 'p> {
     table: &'x ClaimTable,
     begun: &'x Begun,
     seat: ClaimSeat,
-    ghost seated: { IsOf table.now (kin seat) },
+    ghost seated: { IsOf table.now (identity seat) },
     ghost fits: { RowsFit table.now.counts.items 0 shared.now },
 }
 
@@ -128,7 +128,7 @@ fn run_by_two<'x, 'p: 'x, R: Threads + Wait + Sync>(
     one: ClaimSeat,
     other: ClaimSeat,
 )
-    requires of { IsOf table.now (kin one) × IsOf table.now (kin other) }
+    requires of { IsOf table.now (identity one) × IsOf table.now (identity other) }
     requires rows { RowsFit table.now.counts.items 0 shared.now }
 {
     let mut runners = [

@@ -3,7 +3,7 @@ pub mod RangeLemmas
 pub mod RoundLemmas
 pub mod SiteLemmas
 pub mod SumLemmas
-pub mod ToldLemmas
+pub mod NotedLemmas
 pub mod TreeLemmas
 pub mod WorkLemmas
 pub mod ProductLemmas

@@ -10,8 +10,8 @@ use Rattle.array_meaning.specs.Touch.{Visit, walk, Covers, Touches, IsSeparate, 
 use Rattle.array_meaning.specs.Accepted.{is_inside}
 use Rattle.array_eval.specs.Layouts.{number_of}
 use Rattle.touch_bounds.specs.declared.touch.Touch.{Touch}
-use Rattle.touch_bounds.specs.Touches.{Includes, side, DoClash, no_cells, untouched, touch_at, AreVisitsTold}
-use Rattle.touch_bounds.specs.Pieces.{ArePiecesTold, IsClearOf, ClearPiecesAreApart}
+use Rattle.touch_bounds.specs.Touches.{Includes, side, DoClash, no_cells, untouched, touch_at, AreVisitsNoted}
+use Rattle.touch_bounds.specs.Pieces.{ArePiecesNoted, IsClearOf, ClearPiecesAreApart}
 
 -- ---- arrays share no cell
 
@@ -38,7 +38,7 @@ record Spot (arrays : Arrays) (t : List Touch) (writes : Bool) (cell : ℕ) : Ty
   low : base_of arrays array ≤ cell
   high : cell < base_of arrays array + length_of arrays array
   known : number_of arrays array < length arrays
-  told : Includes (side (touch_at t (number_of arrays array)) writes) cell
+  noted : Includes (side (touch_at t (number_of arrays array)) writes) cell
 
 within : (arrays : Arrays) (array : List ℕ) (index : Option ℤ) (cell : ℕ) → IsTrue (is_inside (length_of arrays array) index) → Covers arrays array index cell →
     (base_of arrays array ≤ cell) × (cell < base_of arrays array + length_of arrays array)
@@ -46,18 +46,18 @@ within arrays array None cell inside h = h
 within arrays array (Some (pos n)) cell inside h = let small : n < length_of arrays array = grind (arith, ints) in (omega arith, omega arith)
 within arrays array (Some (negsuc n)) cell inside h = absurd (false≢true inside)
 
-spot_of : (arrays : Arrays) (t : List Touch) (writes : Bool) (vs : List Visit) (cell : ℕ) → AreVisitsTold arrays t vs → Touches arrays writes vs cell → Spot arrays t writes cell
-spot_of arrays t writes [] cell told h = absurd h
-spot_of arrays t writes (v ∷ vs) cell told (inl h) =
-    let place = within arrays v.array v.index cell told.0.reach.inside h.1 in
+spot_of : (arrays : Arrays) (t : List Touch) (writes : Bool) (vs : List Visit) (cell : ℕ) → AreVisitsNoted arrays t vs → Touches arrays writes vs cell → Spot arrays t writes cell
+spot_of arrays t writes [] cell noted h = absurd h
+spot_of arrays t writes (v ∷ vs) cell noted (inl h) =
+    let place = within arrays v.array v.index cell noted.0.reach.inside h.1 in
     record {
       array = v.array;
       low = place.0;
       high = place.1;
-      known = told.0.known;
-      told = subst (λ w. Includes (side (touch_at t (number_of arrays v.array)) w) cell) h.0 (told.0.reach.covered cell h.1);
+      known = noted.0.known;
+      noted = subst (λ w. Includes (side (touch_at t (number_of arrays v.array)) w) cell) h.0 (noted.0.reach.covered cell h.1);
     }
-spot_of arrays t writes (v ∷ vs) cell told (inr h) = spot_of arrays t writes vs cell told.1 h
+spot_of arrays t writes (v ∷ vs) cell noted (inr h) = spot_of arrays t writes vs cell noted.1 h
 
 -- ---- two pieces
 
@@ -67,10 +67,10 @@ AreApartOn arrays t u = (number : ℕ) → number < length arrays → ¬ DoClash
 clash_at : (arrays : Arrays) (t u : List Touch) (w x : Bool) (cell : ℕ) → Spot arrays t w cell → Spot arrays u x cell →
     ((number : ℕ) → number < length arrays → Includes (side (touch_at t number) w) cell → Includes (side (touch_at u number) x) cell → ⊥) → ⊥
 clash_at arrays t u w x cell p q none =
-    none (number_of arrays p.array) p.known p.told
-    (subst (λ n. Includes (side (touch_at u n) x) cell) (number_same arrays q.array p.array cell q.low q.high p.low p.high) q.told)
+    none (number_of arrays p.array) p.known p.noted
+    (subst (λ n. Includes (side (touch_at u n) x) cell) (number_same arrays q.array p.array cell q.low q.high p.low p.high) q.noted)
 
-separate : (arrays : Arrays) (t u : List Touch) (a b : Steps) → AreVisitsTold arrays t (walk arrays a) → AreVisitsTold arrays u (walk arrays b) → AreApartOn arrays t u → IsSeparate arrays a b
+separate : (arrays : Arrays) (t u : List Touch) (a b : Steps) → AreVisitsNoted arrays t (walk arrays a) → AreVisitsNoted arrays u (walk arrays b) → AreApartOn arrays t u → IsSeparate arrays a b
 separate arrays t u a b ta ub apart = record { left = left; right = right }
   where
     left : (cell : ℕ) → Touches arrays true (walk arrays a) cell → Touches arrays false (walk arrays b) cell ⊎ Touches arrays true (walk arrays b) cell → ⊥
@@ -100,17 +100,17 @@ untouched_clear number touch [] e = tt
 untouched_clear number touch (u ∷ us) e =
     (λ clash. no_clash (touch_at u number) (subst (λ t. DoClash t (touch_at u number)) e clash), untouched_clear number touch us e)
 
-separate_from : (arrays : Arrays) (t : List Touch) (a : Steps) (us : List (List Touch)) (more : List Steps) → AreVisitsTold arrays t (walk arrays a) → ArePiecesTold arrays us more →
+separate_from : (arrays : Arrays) (t : List Touch) (a : Steps) (us : List (List Touch)) (more : List Steps) → AreVisitsNoted arrays t (walk arrays a) → ArePiecesNoted arrays us more →
     ((number : ℕ) → number < length arrays → IsClearOf number (touch_at t number) us) → IsSeparateFrom arrays a more
-separate_from arrays t a [] [] ta told clear = tt
-separate_from arrays t a [] (b ∷ more) ta told clear = absurd told
-separate_from arrays t a (u ∷ us) [] ta told clear = absurd told
-separate_from arrays t a (u ∷ us) (b ∷ more) ta told clear =
-    (separate arrays t u a b ta told.0 (λ n small. (clear n small).0), separate_from arrays t a us more ta told.1 (λ n small. (clear n small).1))
+separate_from arrays t a [] [] ta noted clear = tt
+separate_from arrays t a [] (b ∷ more) ta noted clear = absurd noted
+separate_from arrays t a (u ∷ us) [] ta noted clear = absurd noted
+separate_from arrays t a (u ∷ us) (b ∷ more) ta noted clear =
+    (separate arrays t u a b ta noted.0 (λ n small. (clear n small).0), separate_from arrays t a us more ta noted.1 (λ n small. (clear n small).1))
 
 pub clear_apart : ClearPiecesAreApart
-clear_apart arrays [] [] told clear = tt
-clear_apart arrays [] (a ∷ more) told clear = absurd told
-clear_apart arrays (t ∷ ts) [] told clear = absurd told
-clear_apart arrays (t ∷ ts) (a ∷ more) told clear =
-    (separate_from arrays t a ts more told.0 told.1 (λ n small. (clear n small).0), clear_apart arrays ts more told.1 (λ n small. (clear n small).1))
+clear_apart arrays [] [] noted clear = tt
+clear_apart arrays [] (a ∷ more) noted clear = absurd noted
+clear_apart arrays (t ∷ ts) [] noted clear = absurd noted
+clear_apart arrays (t ∷ ts) (a ∷ more) noted clear =
+    (separate_from arrays t a ts more noted.0 noted.1 (λ n small. (clear n small).0), clear_apart arrays ts more noted.1 (λ n small. (clear n small).1))

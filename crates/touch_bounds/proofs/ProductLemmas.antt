@@ -25,43 +25,43 @@ falls k (negsuc a) (pos b) h = omega (arith, ints)
 falls k (negsuc a) (negsuc b) h = omega (arith, ints, mul-le (suc k) (suc b) (suc k) (suc a) (omega arith) (omega (arith, ints)))
 
 -- If an interval has the products at both ends, it has each product between them.
-corner : (told : Interval) (k m n y : ℤ) → LiesIn told (k *ℤ m) → LiesIn told (k *ℤ n) → m ≤ℤ y → y ≤ℤ n → LiesIn told (k *ℤ y)
-corner told (pos k) m n y hm hn low high =
+corner : (noted : Interval) (k m n y : ℤ) → LiesIn noted (k *ℤ m) → LiesIn noted (k *ℤ n) → m ≤ℤ y → y ≤ℤ n → LiesIn noted (k *ℤ y)
+corner noted (pos k) m n y hm hn low high =
     let below = rises k m y low in let above = rises k y n high in
     record { low = omega (arith, ints); high = omega (arith, ints) }
-corner told (negsuc k) m n y hm hn low high =
+corner noted (negsuc k) m n y hm hn low high =
     let below = falls k y n high in let above = falls k m y low in
     record { low = omega (arith, ints); high = omega (arith, ints) }
 
-pub corners : (told : Interval) (l h m n x y : ℤ) → LiesIn told (l *ℤ m) → LiesIn told (l *ℤ n) → LiesIn told (h *ℤ m) → LiesIn told (h *ℤ n) →
-    l ≤ℤ x → x ≤ℤ h → m ≤ℤ y → y ≤ℤ n → LiesIn told (x *ℤ y)
-corners told l h m n x y lm ln hm hn lx xh my yn =
-    let low = corner told l m n y lm ln my yn in
-    let high = corner told h m n y hm hn my yn in
-    let turned = λ (z : ℤ) (p : LiesIn told (z *ℤ y)). subst (LiesIn told) (*ℤ_comm z y) p in
-    subst (LiesIn told) (*ℤ_comm y x) (corner told y l h x (turned l low) (turned h high) lx xh)
+pub corners : (noted : Interval) (l h m n x y : ℤ) → LiesIn noted (l *ℤ m) → LiesIn noted (l *ℤ n) → LiesIn noted (h *ℤ m) → LiesIn noted (h *ℤ n) →
+    l ≤ℤ x → x ≤ℤ h → m ≤ℤ y → y ≤ℤ n → LiesIn noted (x *ℤ y)
+corners noted l h m n x y lm ln hm hn lx xh my yn =
+    let low = corner noted l m n y lm ln my yn in
+    let high = corner noted h m n y hm hn my yn in
+    let turned = λ (z : ℤ) (p : LiesIn noted (z *ℤ y)). subst (LiesIn noted) (*ℤ_comm z y) p in
+    subst (LiesIn noted) (*ℤ_comm y x) (corner noted y l h x (turned l low) (turned h high) lx xh)
 
 -- An interval has a product if it has the checked one.
-at_product : (told : Interval) (l m r : ℤ) → FitsSigned w64 l → FitsSigned w64 m → Checked r (seen l *ℤ seen m) → LiesIn told (seen r) → LiesIn told (l *ℤ m)
-at_product told l m r fl fm e h =
+at_product : (noted : Interval) (l m r : ℤ) → FitsSigned w64 l → FitsSigned w64 m → Checked r (seen l *ℤ seen m) → LiesIn noted (seen r) → LiesIn noted (l *ℤ m)
+at_product noted l m r fl fm e h =
     let fr : FitsSigned w64 r = subst (FitsSigned w64) (sym e.1) e.0 in
-    let here : LiesIn told r = rw (to_z-of_z w64 r fr) at h in
+    let here : LiesIn noted r = rw (to_z-of_z w64 r fr) at h in
     let p : r ≡ seen l *ℤ seen m = e.1 in
     let q : r ≡ l *ℤ m = rw (to_z-of_z w64 l fl, to_z-of_z w64 m fm) at p in
-    subst (LiesIn told) q here
+    subst (LiesIn noted) q here
 
-pub product_lies : (left right told : Interval) (ll lh hl hh : ℤ) → AreFit left → AreFit right → AreFit told →
+pub product_lies : (left right noted : Interval) (ll lh hl hh : ℤ) → AreFit left → AreFit right → AreFit noted →
     Checked ll (seen left.least *ℤ seen right.least) → Checked lh (seen left.least *ℤ seen right.greatest) →
     Checked hl (seen left.greatest *ℤ seen right.least) → Checked hh (seen left.greatest *ℤ seen right.greatest) →
-    LiesIn told (seen ll) → LiesIn told (seen lh) → LiesIn told (seen hl) → LiesIn told (seen hh) → LeadInto wrapping_product left right told
-product_lies left right told ll lh hl hh fl fr ft a b c d p q r s x y hx hy =
-    let inside = corners told left.least left.greatest right.least right.greatest x y
-    (at_product told left.least right.least ll fl.least fr.least a p)
-    (at_product told left.least right.greatest lh fl.least fr.greatest b q)
-    (at_product told left.greatest right.least hl fl.greatest fr.least c r)
-    (at_product told left.greatest right.greatest hh fl.greatest fr.greatest d s)
+    LiesIn noted (seen ll) → LiesIn noted (seen lh) → LiesIn noted (seen hl) → LiesIn noted (seen hh) → LeadInto wrapping_product left right noted
+product_lies left right noted ll lh hl hh fl fr ft a b c d p q r s x y hx hy =
+    let inside = corners noted left.least left.greatest right.least right.greatest x y
+    (at_product noted left.least right.least ll fl.least fr.least a p)
+    (at_product noted left.least right.greatest lh fl.least fr.greatest b q)
+    (at_product noted left.greatest right.least hl fl.greatest fr.least c r)
+    (at_product noted left.greatest right.greatest hh fl.greatest fr.greatest d s)
     hx.low hx.high hy.low hy.high in
-    subst (LiesIn told) (sym (int_wrap_fits w64 (x *ℤ y) (between_fits told.least (x *ℤ y) told.greatest ft.least ft.greatest inside.low inside.high))) inside
+    subst (LiesIn noted) (sym (int_wrap_fits w64 (x *ℤ y) (between_fits noted.least (x *ℤ y) noted.greatest ft.least ft.greatest inside.low inside.high))) inside
 
 -- ---- quotients
 
@@ -81,26 +81,26 @@ quotient_falls k (negsuc a) (pos b) h = omega (arith, ints)
 quotient_falls k (negsuc a) (negsuc b) h = omega (arith, ints, div-le (suc b) (suc a) (suc k) (omega arith) (omega (arith, ints)))
 
 -- If an interval has the quotients at both ends, it has each quotient between them, and none wraps.
-pub quotient_between : (told : Interval) (d l h x : ℤ) → AreFit told → ¬ (d ≡ pos 0) → LiesIn told (int_div l d) → LiesIn told (int_div h d) → l ≤ℤ x → x ≤ℤ h →
-    LiesIn told (quotient x d)
-quotient_between told (pos zero) l h x ft some hl hh low high = absurd (some refl)
-quotient_between told (pos (suc k)) l h x ft some hl hh low high =
+pub quotient_between : (noted : Interval) (d l h x : ℤ) → AreFit noted → ¬ (d ≡ pos 0) → LiesIn noted (int_div l d) → LiesIn noted (int_div h d) → l ≤ℤ x → x ≤ℤ h →
+    LiesIn noted (quotient x d)
+quotient_between noted (pos zero) l h x ft some hl hh low high = absurd (some refl)
+quotient_between noted (pos (suc k)) l h x ft some hl hh low high =
     let below = quotient_rises k l x low in let above = quotient_rises k x h high in
-    let inside : LiesIn told (int_div x (pos (suc k))) = record { low = omega (arith, ints); high = omega (arith, ints) } in
-    subst (LiesIn told) (sym (to_z-of_z w64 (int_div x (pos (suc k))) (between_fits told.least (int_div x (pos (suc k))) told.greatest ft.least ft.greatest inside.low inside.high))) inside
-quotient_between told (negsuc k) l h x ft some hl hh low high =
+    let inside : LiesIn noted (int_div x (pos (suc k))) = record { low = omega (arith, ints); high = omega (arith, ints) } in
+    subst (LiesIn noted) (sym (to_z-of_z w64 (int_div x (pos (suc k))) (between_fits noted.least (int_div x (pos (suc k))) noted.greatest ft.least ft.greatest inside.low inside.high))) inside
+quotient_between noted (negsuc k) l h x ft some hl hh low high =
     let below = quotient_falls k x h high in let above = quotient_falls k l x low in
-    let inside : LiesIn told (int_div x (negsuc k)) = record { low = omega (arith, ints); high = omega (arith, ints) } in
-    subst (LiesIn told) (sym (to_z-of_z w64 (int_div x (negsuc k)) (between_fits told.least (int_div x (negsuc k)) told.greatest ft.least ft.greatest inside.low inside.high))) inside
+    let inside : LiesIn noted (int_div x (negsuc k)) = record { low = omega (arith, ints); high = omega (arith, ints) } in
+    subst (LiesIn noted) (sym (to_z-of_z w64 (int_div x (negsuc k)) (between_fits noted.least (int_div x (negsuc k)) noted.greatest ft.least ft.greatest inside.low inside.high))) inside
 
 -- An interval has a quotient if it has the checked one.
-pub at_quotient : (told : Interval) (a d r : ℤ) → FitsSigned w64 a → FitsSigned w64 d → FitsSigned w64 (int_div (seen a) (seen d)) →
-    r ≡ int_div (seen a) (seen d) → LiesIn told (seen r) → LiesIn told (int_div a d)
-at_quotient told a d r fa fd f e h =
+pub at_quotient : (noted : Interval) (a d r : ℤ) → FitsSigned w64 a → FitsSigned w64 d → FitsSigned w64 (int_div (seen a) (seen d)) →
+    r ≡ int_div (seen a) (seen d) → LiesIn noted (seen r) → LiesIn noted (int_div a d)
+at_quotient noted a d r fa fd f e h =
     let fr : FitsSigned w64 r = subst (FitsSigned w64) (sym e) f in
-    let here : LiesIn told r = rw (to_z-of_z w64 r fr) at h in
+    let here : LiesIn noted r = rw (to_z-of_z w64 r fr) at h in
     let q : r ≡ int_div a d = rw (to_z-of_z w64 a fa, to_z-of_z w64 d fd) at e in
-    subst (LiesIn told) q here
+    subst (LiesIn noted) q here
 
 -- ---- remainders
 

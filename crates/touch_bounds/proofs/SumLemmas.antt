@@ -15,27 +15,27 @@ between_fits (pos l) (negsuc x) h fl fh low high = absurd (omega (arith, ints))
 between_fits (negsuc l) (negsuc x) h fl fh low high = record { sfits = omega (arith, ints) }
 
 -- the interval of two numbers, as the code makes it
-abbrev pub told : ℤ → ℤ → Interval
-told least greatest = record { least = to_z w64 (of_z w64 least); greatest = to_z w64 (of_z w64 greatest) }
+abbrev pub noted : ℤ → ℤ → Interval
+noted least greatest = record { least = to_z w64 (of_z w64 least); greatest = to_z w64 (of_z w64 greatest) }
 
-pub told_lies : (least greatest x : ℤ) → FitsSigned w64 least → FitsSigned w64 greatest → least ≤ℤ x → x ≤ℤ greatest → LiesIn (told least greatest) x
-told_lies least greatest x fl fg low high = record {
+pub noted_lies : (least greatest x : ℤ) → FitsSigned w64 least → FitsSigned w64 greatest → least ≤ℤ x → x ≤ℤ greatest → LiesIn (noted least greatest) x
+noted_lies least greatest x fl fg low high = record {
   low = rw (to_z-of_z w64 least fl) low;
   high = rw (to_z-of_z w64 greatest fg) high;
 }
 
 -- A number between bounds that fit doesn't wrap.
 pub unwrapped_lies : (least greatest x : ℤ) → FitsSigned w64 least → FitsSigned w64 greatest → least ≤ℤ x → x ≤ℤ greatest →
-    LiesIn (told least greatest) (int_wrap w64 x)
+    LiesIn (noted least greatest) (int_wrap w64 x)
 unwrapped_lies least greatest x fl fg low high =
-    subst (LiesIn (told least greatest)) (sym (int_wrap_fits w64 x (between_fits least x greatest fl fg low high))) (told_lies least greatest x fl fg low high)
+    subst (LiesIn (noted least greatest)) (sym (int_wrap_fits w64 x (between_fits least x greatest fl fg low high))) (noted_lies least greatest x fl fg low high)
 
 -- a checked operation: the exact result fits, and is the result
 abbrev pub Checked : ℤ → ℤ → Type 0
 Checked result exact = FitsSigned w64 exact × (result ≡ exact)
 
 checked_lies : (least greatest low high x : ℤ) → Checked least low → Checked greatest high → low ≤ℤ x → x ≤ℤ high →
-    LiesIn (told least greatest) (int_wrap w64 x)
+    LiesIn (noted least greatest) (int_wrap w64 x)
 checked_lies least greatest low high x l g below above =
     unwrapped_lies least greatest x (subst (FitsSigned w64) (sym l.1) l.0) (subst (FitsSigned w64) (sym g.1) g.0)
     (subst (λ z. z ≤ℤ x) (sym l.1) below) (subst (λ z. x ≤ℤ z) (sym g.1) above)
@@ -51,17 +51,17 @@ seen x = to_z w64 (of_z w64 x)
 
 pub sum_lies : (left right : Interval) (least greatest : ℤ) → AreFit left → AreFit right →
     Checked least (seen left.least +ℤ seen right.least) →
-    Checked greatest (seen left.greatest +ℤ seen right.greatest) → LeadInto wrapping_sum left right (told least greatest)
+    Checked greatest (seen left.greatest +ℤ seen right.greatest) → LeadInto wrapping_sum left right (noted least greatest)
 sum_lies left right least greatest fl fr l g x y hx hy =
     checked_lies least greatest (seen left.least +ℤ seen right.least) (seen left.greatest +ℤ seen right.greatest) (x +ℤ y) l g (omega (arith, ints)) (omega (arith, ints))
 
 pub difference_lies : (left right : Interval) (least greatest : ℤ) → AreFit left → AreFit right →
     Checked least (seen left.least -ℤ seen right.greatest) →
-    Checked greatest (seen left.greatest -ℤ seen right.least) → LeadInto wrapping_difference left right (told least greatest)
+    Checked greatest (seen left.greatest -ℤ seen right.least) → LeadInto wrapping_difference left right (noted least greatest)
 difference_lies left right least greatest fl fr l g x y hx hy =
     checked_lies least greatest (seen left.least -ℤ seen right.greatest) (seen left.greatest -ℤ seen right.least) (x -ℤ y) l g (omega (arith, ints)) (omega (arith, ints))
 
 pub minus_lies : (operand : Interval) (least greatest : ℤ) → AreFit operand → Checked least (neg_ℤ (seen operand.greatest)) →
-    Checked greatest (neg_ℤ (seen operand.least)) → LeadsInto wrapping_minus operand (told least greatest)
+    Checked greatest (neg_ℤ (seen operand.least)) → LeadsInto wrapping_minus operand (noted least greatest)
 minus_lies operand least greatest f l g x hx =
     checked_lies least greatest (neg_ℤ (seen operand.greatest)) (neg_ℤ (seen operand.least)) (neg_ℤ x) l g (omega (arith, ints)) (omega (arith, ints))

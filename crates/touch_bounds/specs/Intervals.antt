@@ -9,11 +9,11 @@ pub record LiesIn (within : Interval) (value : ℤ) : Type 0 where
 
 -- If a value lies in an interval, the function's result lies in the reported one.
 abbrev pub LeadsInto : (ℤ → ℤ) → Interval → Interval → Type 0
-LeadsInto f within told = (x : ℤ) → LiesIn within x → LiesIn told (f x)
+LeadsInto f within noted = (x : ℤ) → LiesIn within x → LiesIn noted (f x)
 
 -- If two values lie each in its interval, the function's result lies in the reported one.
 abbrev pub LeadInto : (ℤ → ℤ → ℤ) → Interval → Interval → Interval → Type 0
-LeadInto f left right told = (x y : ℤ) → LiesIn left x → LiesIn right y → LiesIn told (f x y)
+LeadInto f left right noted = (x y : ℤ) → LiesIn left x → LiesIn right y → LiesIn noted (f x y)
 
 -- The interval with one value.
 abbrev pub exactly : ℤ → Interval

@@ -7,28 +7,28 @@ use Rattle.array_meaning.specs.Sites.{Site, AreRoundsApart, AreSitesApart}
 use Rattle.touch_bounds.specs.declared.apart.Piece.{Piece}
 use Rattle.touch_bounds.specs.declared.touch.Touch.{Touch}
 use Rattle.touch_bounds.specs.Ranges.{Bounds, AreWithin}
-use Rattle.touch_bounds.specs.Touches.{DoClash, touch_at, AreVisitsTold}
+use Rattle.touch_bounds.specs.Touches.{DoClash, touch_at, AreVisitsNoted}
 
 -- The recorded stretches of each piece, array by array.
 abbrev pub tables_of : List Piece → List (List Touch)
 tables_of pieces = map (λ p. p.touches.items) pieces
 
 -- The recorded stretches of each piece include all cells that the piece touches.
-abbrev pub ArePiecesTold : Arrays → List (List Touch) → List Steps → Type 0
-ArePiecesTold arrays [] [] = Unit {0}
-ArePiecesTold arrays [] (piece ∷ more) = ⊥
-ArePiecesTold arrays (t ∷ rest) [] = ⊥
-ArePiecesTold arrays (t ∷ rest) (piece ∷ more) =
-    AreVisitsTold arrays t (walk arrays piece) × ArePiecesTold arrays rest more
+abbrev pub ArePiecesNoted : Arrays → List (List Touch) → List Steps → Type 0
+ArePiecesNoted arrays [] [] = Unit {0}
+ArePiecesNoted arrays [] (piece ∷ more) = ⊥
+ArePiecesNoted arrays (t ∷ rest) [] = ⊥
+ArePiecesNoted arrays (t ∷ rest) (piece ∷ more) =
+    AreVisitsNoted arrays t (walk arrays piece) × ArePiecesNoted arrays rest more
 
 -- The pieces of a round, by the values of the variables around.
 abbrev pub Round : Type 0
 Round = Vars → List Steps
 
 -- The recorded stretches of each piece are right, for any values of the variables between their bounds.
-abbrev pub IsRoundTold : Arrays → List (List Touch) → Bounds → Round → Type 0
-IsRoundTold arrays tables bounds round =
-    (vars : Vars) → AreWithin bounds vars → ArePiecesTold arrays tables (round vars)
+abbrev pub IsRoundNoted : Arrays → List (List Touch) → Bounds → Round → Type 0
+IsRoundNoted arrays tables bounds round =
+    (vars : Vars) → AreWithin bounds vars → ArePiecesNoted arrays tables (round vars)
 
 -- The pieces are apart, for any values of the variables between their bounds.
 abbrev pub IsRoundApart : Arrays → Bounds → Round → Type 0
@@ -59,5 +59,5 @@ AreClear number (t ∷ more) = IsClearOf number (touch_at t number) more × AreC
 -- Pieces are apart if their recorded stretches are right and clash on no array.
 abbrev pub ClearPiecesAreApart : Type 0
 ClearPiecesAreApart = (arrays : Arrays) (tables : List (List Touch)) (pieces : List Steps)
-    → ArePiecesTold arrays tables pieces →
+    → ArePiecesNoted arrays tables pieces →
     ((number : ℕ) → number < length arrays → AreClear number tables) → IsApart arrays pieces

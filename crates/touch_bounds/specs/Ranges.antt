@@ -35,6 +35,6 @@ interval_of (b ∷ more) name = cond (name_eq b.0 name) b.1 (interval_of more na
 
 -- For any arrays and store, and any values of the variables between their bounds, the value of the expression lies between the
 -- reported bounds.
-abbrev pub IsTold : Bounds → Expression → Interval → Type 0
-IsTold bounds expr told = (arrays : Arrays) (vars : Vars) (store : Store) → AreWithin bounds vars
-    → LiesIn told (value_of arrays vars expr store)
+abbrev pub IsNoted : Bounds → Expression → Interval → Type 0
+IsNoted bounds expr noted = (arrays : Arrays) (vars : Vars) (store : Store) → AreWithin bounds vars
+    → LiesIn noted (value_of arrays vars expr store)

@@ -70,40 +70,40 @@ IsReachOf arrays array index bounds cells =
 
 -- The recorded stretches cover a visit: its array is one of the program, its index is inside, and each cell that it touches is
 -- in a stretch of the array, as read or as written.
-pub record IsVisitTold (arrays : Arrays) (touches : List Touch) (v : Visit) : Type 0 where
+pub record IsVisitNoted (arrays : Arrays) (touches : List Touch) (v : Visit) : Type 0 where
   pub known : number_of arrays v.array < length arrays
   pub reach : IsReach arrays v.array v.index
       (side (touch_at touches (number_of arrays v.array)) v.writes)
 
 -- The recorded stretches cover each of the visits.
-abbrev pub AreVisitsTold : Arrays → List Touch → List Visit → Type 0
-AreVisitsTold arrays touches [] = Unit {0}
-AreVisitsTold arrays touches (v ∷ more) =
-    IsVisitTold arrays touches v × AreVisitsTold arrays touches more
+abbrev pub AreVisitsNoted : Arrays → List Touch → List Visit → Type 0
+AreVisitsNoted arrays touches [] = Unit {0}
+AreVisitsNoted arrays touches (v ∷ more) =
+    IsVisitNoted arrays touches v × AreVisitsNoted arrays touches more
 
 -- The recorded stretches cover a visit with an index, for any values of the variables between their bounds.
-abbrev pub IsIndexTold : Arrays → List Touch → Bounds → Bool → List ℕ → Expression → Type 0
-IsIndexTold arrays touches bounds writes array index =
+abbrev pub IsIndexNoted : Arrays → List Touch → Bounds → Bool → List ℕ → Expression → Type 0
+IsIndexNoted arrays touches bounds writes array index =
     (line : ℕ) (vars : Vars) → AreWithin bounds vars
-    → IsVisitTold arrays touches (visit arrays line writes vars array index)
+    → IsVisitNoted arrays touches (visit arrays line writes vars array index)
 
 -- The recorded stretches cover the reads of an expression.
-abbrev pub AreReadsTold : Arrays → List Touch → Bounds → Expression → Type 0
-AreReadsTold arrays touches bounds expr = (line : ℕ) (vars : Vars) → AreWithin bounds vars
-    → AreVisitsTold arrays touches (reads_in arrays line vars expr)
+abbrev pub AreReadsNoted : Arrays → List Touch → Bounds → Expression → Type 0
+AreReadsNoted arrays touches bounds expr = (line : ℕ) (vars : Vars) → AreWithin bounds vars
+    → AreVisitsNoted arrays touches (reads_in arrays line vars expr)
 
 -- The recorded stretches cover a work.
-abbrev pub IsWorkTold : Arrays → List Touch → Bounds → Work → Type 0
-IsWorkTold arrays touches bounds work =
-    (vars : Vars) → AreWithin bounds vars → AreVisitsTold arrays touches (walk arrays (work vars))
+abbrev pub IsWorkNoted : Arrays → List Touch → Bounds → Work → Type 0
+IsWorkNoted arrays touches bounds work =
+    (vars : Vars) → AreWithin bounds vars → AreVisitsNoted arrays touches (walk arrays (work vars))
 
 -- The recorded stretches cover an assignment, on any line.
-abbrev pub IsAssignTold : Arrays → List Touch → Bounds → List ℕ → Expression → Expression → Type 0
-IsAssignTold arrays touches bounds array index value =
-    (line : ℕ) → IsWorkTold arrays touches bounds (statement_work (Assign line array index value))
+abbrev pub IsAssignNoted : Arrays → List Touch → Bounds → List ℕ → Expression → Expression → Type 0
+IsAssignNoted arrays touches bounds array index value =
+    (line : ℕ) → IsWorkNoted arrays touches bounds (statement_work (Assign line array index value))
 
 -- The recorded stretches cover an `if`, on any line.
-abbrev pub IsChoiceTold : Arrays → List Touch → Bounds → Expression → Sequence → Sequence → Type 0
-IsChoiceTold arrays touches bounds test then_block else_block =
-    (line : ℕ) → IsWorkTold arrays touches bounds
+abbrev pub IsChoiceNoted : Arrays → List Touch → Bounds → Expression → Sequence → Sequence → Type 0
+IsChoiceNoted arrays touches bounds test then_block else_block =
+    (line : ℕ) → IsWorkNoted arrays touches bounds
     (statement_work (If line test then_block else_block))

@@ -1,7 +1,7 @@
 //! Bounds of the values of expressions.
 ghost use Rattle.std.specs.Prelude.{IfSome};
 ghost use Rattle.array_tree.specs.Trees.{expression_of};
-ghost use Rattle.touch_bounds.specs.Ranges.{bounds_of, IsTold};
+ghost use Rattle.touch_bounds.specs.Ranges.{bounds_of, IsNoted};
 
 use crate::interval::{Interval, applied, minus};
 use crate::ranges::Ranges;
@@ -10,7 +10,7 @@ use array_tree::Expr;
 /// Bounds of the values of an expression, for any values of the variables between theirs. `None` if the expression reads an
 /// array, or its arithmetic may wrap.
 pub fn interval_of(expr: &Expr, ranges: &Ranges) -> Option<Interval>
-    ensures { IfSome result (λ told. IsTold (bounds_of ranges.now) (expression_of expr.now) told) }
+    ensures { IfSome result (λ noted. IsNoted (bounds_of ranges.now) (expression_of expr.now) noted) }
 {
     match expr {
         Expr::Number(number) => Some(Interval::exactly(*number)),

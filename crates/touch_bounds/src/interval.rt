@@ -37,7 +37,7 @@ const ZERO: Interval = Interval {
 
 // A sum of two values, if none wraps.
 fn sum(left: Interval, right: Interval) -> Option<Interval>
-    ensures { IfSome result (λ told. LeadInto wrapping_sum left right told) }
+    ensures { IfSome result (λ noted. LeadInto wrapping_sum left right noted) }
 {
     let least = left.least.checked_add(right.least)?;
     let greatest = left.greatest.checked_add(right.greatest)?;
@@ -46,7 +46,7 @@ fn sum(left: Interval, right: Interval) -> Option<Interval>
 
 // A difference of two values, if none wraps.
 fn difference(left: Interval, right: Interval) -> Option<Interval>
-    ensures { IfSome result (λ told. LeadInto wrapping_difference left right told) }
+    ensures { IfSome result (λ noted. LeadInto wrapping_difference left right noted) }
 {
     let least = left.least.checked_sub(right.greatest)?;
     let greatest = left.greatest.checked_sub(right.least)?;
@@ -55,7 +55,7 @@ fn difference(left: Interval, right: Interval) -> Option<Interval>
 
 /// The minus sign before a value, if that never wraps.
 pub(crate) fn minus(operand: Interval) -> Option<Interval>
-    ensures { IfSome result (λ told. LeadsInto wrapping_minus operand told) }
+    ensures { IfSome result (λ noted. LeadsInto wrapping_minus operand noted) }
 {
     let least = operand.greatest.checked_neg()?;
     let greatest = operand.least.checked_neg()?;
@@ -86,7 +86,7 @@ fn joined(one: Interval, other: Interval) -> Interval
 
 // A product of two values, if none wraps: it lies between products of bounds.
 fn product(left: Interval, right: Interval) -> Option<Interval>
-    ensures { IfSome result (λ told. LeadInto wrapping_product left right told) }
+    ensures { IfSome result (λ noted. LeadInto wrapping_product left right noted) }
 {
     let low_low = left.least.checked_mul(right.least)?;
     let low_high = left.least.checked_mul(right.greatest)?;
@@ -97,7 +97,7 @@ fn product(left: Interval, right: Interval) -> Option<Interval>
 
 // A quotient by a constant, if none wraps.
 fn quotient(left: Interval, divisor: i64) -> Option<Interval>
-    ensures { IfSome result (λ told. LeadsInto (λ x. quotient x divisor) left told) }
+    ensures { IfSome result (λ noted. LeadsInto (λ x. quotient x divisor) left noted) }
 {
     if divisor == 0 {
         return Some(ZERO);
@@ -125,7 +125,7 @@ fn highest_remainder(left: Interval, divisor: i64) -> i64
 
 // A remainder by a constant that isn't negative.
 fn remainder(left: Interval, divisor: i64) -> Option<Interval>
-    ensures { IfSome result (λ told. LeadsInto (λ x. remainder x divisor) left told) }
+    ensures { IfSome result (λ noted. LeadsInto (λ x. remainder x divisor) left noted) }
 {
     if divisor < 0 {
         return None;
@@ -156,7 +156,7 @@ fn constant(within: Interval) -> Option<i64>
 /// The values of an operator on two intervals. `None` if a result may wrap, if it depends on a divisor that isn't a constant,
 /// or if it is a remainder by a negative constant.
 pub(crate) fn applied(op: Op, left: Interval, right: Interval) -> Option<Interval>
-    ensures { IfSome result (λ told. LeadInto (applied op) left right told) }
+    ensures { IfSome result (λ noted. LeadInto (applied op) left right noted) }
 {
     match op {
         Op::Add => sum(left, right),

@@ -9,29 +9,29 @@ ghost use Rattle.array_meaning.specs.Touch.{walk};
 ghost use Rattle.array_meaning.specs.Accepted.{are_inside};
 ghost use Rattle.array_eval.specs.Views.{vars_of};
 ghost use Rattle.touch_bounds.specs.Ranges.{bounds_of};
-ghost use Rattle.touch_bounds.specs.Touches.{IsWorkTold};
-ghost use Rattle.touch_bounds.specs.Pieces.{tables_of, IsRoundTold, IsRoundApart};
+ghost use Rattle.touch_bounds.specs.Touches.{IsWorkNoted};
+ghost use Rattle.touch_bounds.specs.Pieces.{tables_of, IsRoundNoted, IsRoundApart};
 
 use crate::apart::{Piece, are_all_clear};
 use crate::ranges::Ranges;
 use crate::touch::UNTOUCHED;
-use crate::work::{tell_block, tell_loop, tell_statement};
+use crate::work::{note_block, note_loop, note_statement};
 use array_eval::{Layout, Scope, start_of_member};
 use array_tree::{Block, Blocks, Name, Stmt};
 use std::alloc::Global;
 
 // The recorded stretches of a block, if all are known and no allocation failed.
-fn told_block<'s>(
+fn noted_block<'s>(
     alloc: Global,
     layout: &Layout,
     block: &'s Block,
     ranges: &'s Ranges<'s>,
 ) -> Option<Piece>
-    ensures { IfSome result (λ p. IsWorkTold layout.now p.touches.items (bounds_of ranges.now)
+    ensures { IfSome result (λ p. IsWorkNoted layout.now p.touches.items (bounds_of ranges.now)
         (sequence_work (sequence_of block.now))) }
 {
     let mut touches = vec![in alloc; UNTOUCHED; layout.count()].ok()?;
-    if tell_block(layout, block, ranges, &mut touches) {
+    if note_block(layout, block, ranges, &mut touches) {
         Some(Piece { touches })
     } else {
         None
@@ -39,7 +39,7 @@ fn told_block<'s>(
 }
 
 // The same for a block that runs for each number from low to before high.
-fn told_loop<'s>(
+fn noted_loop<'s>(
     alloc: Global,
     layout: &Layout,
     body: &'s Block,
@@ -48,11 +48,11 @@ fn told_loop<'s>(
     high: i64,
     ranges: &'s Ranges<'s>,
 ) -> Option<Piece>
-    ensures { IfSome result (λ p. IsWorkTold layout.now p.touches.items (bounds_of ranges.now)
+    ensures { IfSome result (λ p. IsWorkNoted layout.now p.touches.items (bounds_of ranges.now)
         (loop var.now low high (sequence_work (sequence_of body.now)))) }
 {
     let mut touches = vec![in alloc; UNTOUCHED; layout.count()].ok()?;
-    if tell_loop(layout, body, var, low, high, ranges, &mut touches) {
+    if note_loop(layout, body, var, low, high, ranges, &mut touches) {
         Some(Piece { touches })
     } else {
         None
@@ -60,26 +60,26 @@ fn told_loop<'s>(
 }
 
 // The recorded stretches of the branches of a `par`, each as a piece.
-fn told_branches<'s>(
+fn noted_branches<'s>(
     alloc: Global,
     layout: &Layout,
     branches: &'s Blocks,
     ranges: &'s Ranges<'s>,
 ) -> Option<Vec<Piece>>
     ensures { IfSome result (λ pieces.
-        IsRoundTold layout.now (tables_of pieces.items) (bounds_of ranges.now)
+        IsRoundNoted layout.now (tables_of pieces.items) (bounds_of ranges.now)
         (branch_works (sequences_of branches.now))) }
 {
     let mut pieces = Vec::new(alloc);
     for branch in &branches.blocks {
-        let piece = told_block(alloc, layout, branch, ranges)?;
+        let piece = noted_block(alloc, layout, branch, ranges)?;
         pieces.push(piece).ok()?;
     }
     Some(pieces)
 }
 
 // The recorded stretches of the members of a `team` in one phase, each as a piece.
-fn told_members<'s>(
+fn noted_members<'s>(
     alloc: Global,
     layout: &Layout,
     phase: &'s Block,
@@ -90,14 +90,14 @@ fn told_members<'s>(
     ranges: &'s Ranges<'s>,
 ) -> Option<Vec<Piece>>
     ensures { IfSome result (λ pieces.
-        IsRoundTold layout.now (tables_of pieces.items) (bounds_of ranges.now)
+        IsRoundNoted layout.now (tables_of pieces.items) (bounds_of ranges.now)
         (team_works var.now low high members (sequence_work (sequence_of phase.now)))) }
 {
     let mut pieces = Vec::new(alloc);
     for member in 0..members {
         let start = start_of_member(low, high, members, member);
         let end = start_of_member(low, high, members, member + 1);
-        let piece = told_loop(alloc, layout, phase, var, start, end, ranges)?;
+        let piece = noted_loop(alloc, layout, phase, var, start, end, ranges)?;
         pieces.push(piece).ok()?;
     }
     Some(pieces)
@@ -115,7 +115,7 @@ pub fn branches_are_apart<'s>(
     ensures { OnTrue result (IsRoundApart layout.now (bounds_of ranges.now)
         (branch_works (sequences_of branches.now))) }
 {
-    match told_branches(alloc, layout, branches, ranges) {
+    match noted_branches(alloc, layout, branches, ranges) {
         Some(pieces) => are_all_clear(&pieces, layout.count()),
         None => false,
     }
@@ -135,7 +135,7 @@ pub fn members_are_apart<'s>(
     ensures { OnTrue result (IsRoundApart layout.now (bounds_of ranges.now)
         (team_works var.now low high members (sequence_work (sequence_of phase.now)))) }
 {
-    match told_members(alloc, layout, phase, var, low, high, members, ranges) {
+    match noted_members(alloc, layout, phase, var, low, high, members, ranges) {
         Some(pieces) => are_all_clear(&pieces, layout.count()),
         None => false,
     }
@@ -155,7 +155,7 @@ pub fn indices_are_inside<'s>(
 {
     let ranges = Ranges::Fixed(scope);
     match vec![in alloc; UNTOUCHED; layout.count()] {
-        Ok(mut touches) => tell_statement(layout, statement, &ranges, &mut touches),
+        Ok(mut touches) => note_statement(layout, statement, &ranges, &mut touches),
         Err(_) => false,
     }
 }

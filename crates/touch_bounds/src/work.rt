@@ -4,11 +4,11 @@ ghost use Rattle.std.specs.Bool.{OnTrue};
 ghost use Rattle.array_tree.specs.Trees.{statement_of, sequence_of, sequences_of};
 ghost use Rattle.array_meaning.specs.Work.{statement_work, sequence_work, branches_work, phases_work, loop};
 ghost use Rattle.touch_bounds.specs.Ranges.{bounds_of};
-ghost use Rattle.touch_bounds.specs.Touches.{Widens, IsWorkTold};
+ghost use Rattle.touch_bounds.specs.Touches.{Widens, IsWorkNoted};
 
 use crate::interval::Interval;
+use crate::note::{note_assign, note_reads};
 use crate::ranges::Ranges;
-use crate::tell::{tell_assign, tell_reads};
 use crate::touch::Touch;
 use array_eval::Layout;
 use array_tree::{Block, Blocks, Name, Stmt};
@@ -17,8 +17,8 @@ use array_tree::{Block, Blocks, Name, Stmt};
 /// recorded before. Both sides of an `if` count, and a loop without turns touches nothing.
 ///
 /// Returns whether all are known: each static index is then inside its array. If not, the record means nothing.
-#[cycle(tell)]
-pub fn tell_block<'s>(
+#[cycle(note)]
+pub fn note_block<'s>(
     layout: &Layout,
     block: &'s Block,
     ranges: &'s Ranges<'s>,
@@ -26,12 +26,12 @@ pub fn tell_block<'s>(
 ) -> bool
     requires places { length touches.old ≡ length layout.now }
     ensures wider { Widens touches.old touches.new }
-    ensures told { OnTrue result
-        (IsWorkTold layout.now touches.new (bounds_of ranges.now)
+    ensures noted { OnTrue result
+        (IsWorkNoted layout.now touches.new (bounds_of ranges.now)
         (sequence_work (sequence_of block.now))) }
 {
     for statement in &block.statements {
-        if !tell_statement(layout, statement, ranges, touches) {
+        if !note_statement(layout, statement, ranges, touches) {
             return false;
         }
     }
@@ -39,8 +39,8 @@ pub fn tell_block<'s>(
 }
 
 /// The same for a statement.
-#[cycle(tell)]
-pub(crate) fn tell_statement<'s>(
+#[cycle(note)]
+pub(crate) fn note_statement<'s>(
     layout: &Layout,
     statement: &'s Stmt,
     ranges: &'s Ranges<'s>,
@@ -48,8 +48,8 @@ pub(crate) fn tell_statement<'s>(
 ) -> bool
     requires places { length touches.old ≡ length layout.now }
     ensures wider { Widens touches.old touches.new }
-    ensures told { OnTrue result
-        (IsWorkTold layout.now touches.new (bounds_of ranges.now)
+    ensures noted { OnTrue result
+        (IsWorkNoted layout.now touches.new (bounds_of ranges.now)
         (statement_work (statement_of statement.now))) }
 {
     match statement {
@@ -58,42 +58,42 @@ pub(crate) fn tell_statement<'s>(
             index,
             value,
             ..
-        } => tell_assign(layout, array, index, value, ranges, touches),
+        } => note_assign(layout, array, index, value, ranges, touches),
         Stmt::For {
             var,
             low,
             high,
             body,
             ..
-        } => tell_loop(layout, body, var, *low, *high, ranges, touches),
+        } => note_loop(layout, body, var, *low, *high, ranges, touches),
         Stmt::If {
             cond,
             then_block,
             else_block,
             ..
         } => {
-            if !tell_reads(layout, cond, ranges, touches) {
+            if !note_reads(layout, cond, ranges, touches) {
                 return false;
             }
-            if !tell_block(layout, then_block, ranges, touches) {
+            if !note_block(layout, then_block, ranges, touches) {
                 return false;
             }
-            tell_block(layout, else_block, ranges, touches)
+            note_block(layout, else_block, ranges, touches)
         }
-        Stmt::Par { branches, .. } => tell_branches(layout, branches, ranges, touches),
+        Stmt::Par { branches, .. } => note_branches(layout, branches, ranges, touches),
         Stmt::Team {
             var,
             low,
             high,
             phases,
             ..
-        } => tell_phases(layout, phases, var, *low, *high, ranges, touches),
+        } => note_phases(layout, phases, var, *low, *high, ranges, touches),
     }
 }
 
 /// The same for a block that runs for each number from `low` to before `high`.
-#[cycle(tell)]
-pub(crate) fn tell_loop<'s>(
+#[cycle(note)]
+pub(crate) fn note_loop<'s>(
     layout: &Layout,
     body: &'s Block,
     var: &'s Name,
@@ -104,8 +104,8 @@ pub(crate) fn tell_loop<'s>(
 ) -> bool
     requires places { length touches.old ≡ length layout.now }
     ensures wider { Widens touches.old touches.new }
-    ensures told { OnTrue result
-        (IsWorkTold layout.now touches.new (bounds_of ranges.now)
+    ensures noted { OnTrue result
+        (IsWorkNoted layout.now touches.new (bounds_of ranges.now)
         (loop var.now low high (sequence_work (sequence_of body.now)))) }
 {
     if low >= high {
@@ -119,12 +119,12 @@ pub(crate) fn tell_loop<'s>(
         },
         outer: ranges,
     };
-    tell_block(layout, body, &turns, touches)
+    note_block(layout, body, &turns, touches)
 }
 
 // The same for the branches of a `par`.
-#[cycle(tell)]
-fn tell_branches<'s>(
+#[cycle(note)]
+fn note_branches<'s>(
     layout: &Layout,
     branches: &'s Blocks,
     ranges: &'s Ranges<'s>,
@@ -132,12 +132,12 @@ fn tell_branches<'s>(
 ) -> bool
     requires places { length touches.old ≡ length layout.now }
     ensures wider { Widens touches.old touches.new }
-    ensures told { OnTrue result
-        (IsWorkTold layout.now touches.new (bounds_of ranges.now)
+    ensures noted { OnTrue result
+        (IsWorkNoted layout.now touches.new (bounds_of ranges.now)
         (branches_work (sequences_of branches.now))) }
 {
     for branch in &branches.blocks {
-        if !tell_block(layout, branch, ranges, touches) {
+        if !note_block(layout, branch, ranges, touches) {
             return false;
         }
     }
@@ -145,8 +145,8 @@ fn tell_branches<'s>(
 }
 
 // The same for the phases of a `team`.
-#[cycle(tell)]
-fn tell_phases<'s>(
+#[cycle(note)]
+fn note_phases<'s>(
     layout: &Layout,
     phases: &'s Blocks,
     var: &'s Name,
@@ -157,11 +157,11 @@ fn tell_phases<'s>(
 ) -> bool
     requires places { length touches.old ≡ length layout.now }
     ensures wider { Widens touches.old touches.new }
-    ensures told { OnTrue result (IsWorkTold layout.now touches.new (bounds_of ranges.now)
+    ensures noted { OnTrue result (IsWorkNoted layout.now touches.new (bounds_of ranges.now)
         (λ vars. phases_work (sequences_of phases.now) var.now low high vars)) }
 {
     for phase in &phases.blocks {
-        if !tell_loop(layout, phase, var, low, high, ranges, touches) {
+        if !note_loop(layout, phase, var, low, high, ranges, touches) {
             return false;
         }
     }

@@ -183,12 +183,12 @@ legal_counts p plan es t is = lasts p plan (λ xs u. (s : ℕ) → IsSite p s �
     (λ n c. counted_swept p xs e s (row u s) n c (legal_blank p plan xs u leads s site (covered_new p plan xs u e leads a s site c)) (f s site))) es t is
 
 -- The row of a site determines how often the site was registered, unregistered and skipped.
-pub rows_tell : (p : Plan) → IsPlan p → (es : List Entry) (t : TableState) → Reaches p es t → (s : ℕ) → IsSite p s → IsCounted p es t s
-rows_tell p plan es t is s site = let c = legal_counts p plan es t is s site in record { came = c.came; went = c.went; skipped = c.skipped }
+pub rows_report : (p : Plan) → IsPlan p → (es : List Entry) (t : TableState) → Reaches p es t → (s : ℕ) → IsSite p s → IsCounted p es t s
+rows_report p plan es t is s site = let c = legal_counts p plan es t is s site in record { came = c.came; went = c.went; skipped = c.skipped }
 
 -- A site has a Register iff its row has a home.
 pub registered-home : (p : Plan) → IsPlan p → (es : List Entry) (t : TableState) → Reaches p es t → (s : ℕ) → IsSite p s → has_register es s ≡ is_some (row t s).home
-registered-home p plan es t is s site = split (is_some (row t s).home) ((rows_tell p plan es t is s site).came)
+registered-home p plan es t is s site = split (is_some (row t s).home) ((rows_report p plan es t is s site).came)
   where
     split : (b : Bool) → registers s es ≡ (if b then 1 else 0) → has_register es s ≡ b
     split true e = ap (nat_le 1) e
@@ -196,7 +196,7 @@ registered-home p plan es t is s site = split (is_some (row t s).home) ((rows_te
 
 -- If each site is gone, each meant site was registered once and unregistered once.
 pub complete_came : (p : Plan) → IsPlan p → (meant : List Bool) (es : List Entry) (t : TableState) → Reaches p es t → AllGone p t → AreMeant p meant es → (s : ℕ) → IsSite p s → is_meant meant s ≡ true → CameAndWent p es s
-complete_came p plan meant es t is gone are s site m = let b = rows_tell p plan es t is s site in
+complete_came p plan meant es t is gone are s site m = let b = rows_report p plan es t is s site in
     let h : is_some (row t s).home ≡ true = sym (registered-home p plan es t is s site) ∙ (are s site ∙ m) in let g = gone s site in record {
       came = b.came ∙ ap (λ (x : Bool). if x then 1 else 0) h;
       went = b.went ∙ (ap (λ (x : Stage). if (is_gone x && is_some (row t s).home) then 1 else 0) g ∙ ap (λ (x : Bool). if x then 1 else 0) h);
@@ -205,7 +205,7 @@ complete_came p plan meant es t is gone are s site m = let b = rows_tell p plan 
 
 -- If each site is gone, each other site was skipped once.
 pub complete_skipped : (p : Plan) → IsPlan p → (meant : List Bool) (es : List Entry) (t : TableState) → Reaches p es t → AllGone p t → AreMeant p meant es → (s : ℕ) → IsSite p s → is_meant meant s ≡ false → WasSkipped p es s
-complete_skipped p plan meant es t is gone are s site m = let b = rows_tell p plan es t is s site in
+complete_skipped p plan meant es t is gone are s site m = let b = rows_report p plan es t is s site in
     let h : is_some (row t s).home ≡ false = sym (registered-home p plan es t is s site) ∙ (are s site ∙ m) in let g = gone s site in record {
       never_came = b.came ∙ ap (λ (x : Bool). if x then 1 else 0) h;
       never_went = b.went ∙ (ap (λ (x : Stage). if (is_gone x && is_some (row t s).home) then 1 else 0) g ∙ ap (λ (x : Bool). if x then 1 else 0) h);

@@ -18,7 +18,7 @@ use Rattle.transfer_table.proofs.Effects.{at_site, row_after, allowed_site, row-
 use Rattle.transfer_table.proofs.Stages.{first_blank, legal_blank, gone_lasts, covered_new}
 use Rattle.transfer_table.proofs.Within.{within-step, strictly_within, within_site}
 use Rattle.transfer_table.proofs.Homes.{legal_home}
-use Rattle.transfer_table.proofs.Balance.{rows_tell}
+use Rattle.transfer_table.proofs.Balance.{rows_report}
 
 pub skips-snoc : (s : ℕ) (es : List Entry) (e : Entry) → skips s (es ++ e ∷ []) ≡ skips s es + cond (if site_of e == s then is_skip e else false) 1 0
 skips-snoc s es e = let z = sum_by-append (λ x. cond {A = ℕ} (if site_of x == s then is_skip x else false) 1 0) es (e ∷ []) in omega arith
@@ -107,7 +107,7 @@ by_home (Some h) some none = some refl
 -- A site begins and ends as its own entries have it.
 pub legal_begins : (p : Plan) → IsPlan p → (es : List Entry) (t : TableState) → Reaches p es t → (s : ℕ) → IsSite p s → BeginsOnce p es t s
 legal_begins p plan es t is s site =
-    let c = rows_tell p plan es t is s site in let k = legal_skips p plan es t is s site in
+    let c = rows_report p plan es t is s site in let k = legal_skips p plan es t is s site in
     let came = c.came in let went = c.went in
     let with_home : is_some (row t s).home ≡ true → (registers s es ≡ 1) × (skips s es ≡ 0) = λ h. (came ∙ ap (λ (b : Bool). if b then 1 else 0) h, k.kept h) in
     let no_home : is_some (row t s).home ≡ false → registers s es ≡ 0 = λ h. came ∙ ap (λ (b : Bool). if b then 1 else 0) h in
@@ -124,8 +124,8 @@ legal_begins p plan es t is s site =
     }
   where
     over_of : (g : Stage) → (row t s).stage ≡ g → 1 ≤ unregisters s es + skips s es → (row t s).stage ≡ Gone
-    over_of New e some = absurd (let m = (legal_skips p plan es t is s site).not_yet (λ q. cc) in let w : unregisters s es ≡ 0 = (rows_tell p plan es t is s site).went ∙ ap (λ (x : Stage). if (is_gone x && is_some (row t s).home) then 1 else 0) e in omega arith)
-    over_of Live e some = absurd (let m = (legal_skips p plan es t is s site).not_yet (λ q. cc) in let w : unregisters s es ≡ 0 = (rows_tell p plan es t is s site).went ∙ ap (λ (x : Stage). if (is_gone x && is_some (row t s).home) then 1 else 0) e in omega arith)
+    over_of New e some = absurd (let m = (legal_skips p plan es t is s site).not_yet (λ q. cc) in let w : unregisters s es ≡ 0 = (rows_report p plan es t is s site).went ∙ ap (λ (x : Stage). if (is_gone x && is_some (row t s).home) then 1 else 0) e in omega arith)
+    over_of Live e some = absurd (let m = (legal_skips p plan es t is s site).not_yet (λ q. cc) in let w : unregisters s es ≡ 0 = (rows_report p plan es t is s site).went ∙ ap (λ (x : Stage). if (is_gone x && is_some (row t s).home) then 1 else 0) e in omega arith)
     over_of Gone e some = e
 
 -- A site that was never registered requested nothing.

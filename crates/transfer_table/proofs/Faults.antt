@@ -144,9 +144,9 @@ none_lacks None None e = (refl, refl)
 none_lacks None (Some w) e = absurd (cc)
 none_lacks (Some s) w e = absurd (cc)
 
-none_told : (k : ℕ) (w : Option Why) → option_map {T = Why} {U = Fault} (λ why. record { place = k; why = why }) w ≡ None → w ≡ None
-none_told k None e = refl
-none_told k (Some w) e = absurd (cc)
+none_reported : (k : ℕ) (w : Option Why) → option_map {T = Why} {U = Fault} (λ why. record { place = k; why = why }) w ≡ None → w ≡ None
+none_reported k None e = refl
+none_reported k (Some w) e = absurd (cc)
 
 none_first : (a b : Option Fault) → first_cause (a ∷ b ∷ []) ≡ None → (a ≡ None) × (b ≡ None)
 none_first None None e = (refl, refl)
@@ -160,7 +160,7 @@ complete p plan meant es size e =
     let r = none_refused p (first_state p) es 0 both.0 in
     let fits = legal_position p plan es r.0 r.1 in
     let end : lacking meant es (Ok r.0) ≡ None = ap (lacking meant es) (sym r.1) ∙ both.1 in
-    let lacks_none = none_lacks (unfinished r.0.rows 1) (unmeant (has_register es) meant 1) (none_told (length es) (lacks meant (has_register es) r.0) end) in (
+    let lacks_none = none_lacks (unfinished r.0.rows 1) (unmeant (has_register es) meant 1) (none_reported (length es) (lacks meant (has_register es) r.0) end) in (
       r.0,
       r.1,
       λ s is. let low = is.0 in let high = is.1 in all_gone r.0.rows 1 (s - 1) blank lacks_none.0 (let z = fits.rows in omega arith),

@@ -1,13 +1,13 @@
 -- The laws of the table hold.
 use Rattle.transfer_table.specs.Table.{first_state}
-use Rattle.transfer_table.specs.Laws.{AllowedIsAdmitted, EntriesAreInThePlan, HartsAreConserved, HomesStayInside, IdleHartsStay, LegalListsAreShort, NewRowsAreBlank, ParentsOutliveChildren, PrefixesAreLegal, RowsTellEntries, SitesComeAndGoOnce, WishesBalance, ChildrenOfNewAreNew, SitesBeginOnce, WithinIsTested}
+use Rattle.transfer_table.specs.Laws.{AllowedIsAdmitted, EntriesAreInThePlan, HartsAreConserved, HomesStayInside, IdleHartsStay, LegalListsAreShort, NewRowsAreBlank, ParentsOutliveChildren, PrefixesAreLegal, RowsReportEntries, SitesComeAndGoOnce, WishesBalance, ChildrenOfNewAreNew, SitesBeginOnce, WithinIsTested}
 use Rattle.transfer_table.proofs.Admits.{admits, admitted}
 use Rattle.transfer_table.proofs.Replays.{replay_from-append}
 use Rattle.transfer_table.proofs.Bounds.{legal_length, legal_owner, legal_parent}
 use Rattle.transfer_table.proofs.Stages.{legal_blank, legal_children, legal_new_children}
 use Rattle.transfer_table.proofs.Within as within
 use Rattle.transfer_table.proofs.Homes.{legal_home}
-use Rattle.transfer_table.proofs.Balance.{legal_balance, legal_by_home, legal_entries, rows_tell, complete_came, complete_skipped}
+use Rattle.transfer_table.proofs.Balance.{legal_balance, legal_by_home, legal_entries, rows_report, complete_came, complete_skipped}
 use Rattle.transfer_table.proofs.Begins.{legal_begins}
 use Rattle.transfer_table.proofs.Makers.{legal_idle}
 use Rattle.transfer_table.proofs.Held.{legal_held, complete_owner}
@@ -51,8 +51,8 @@ within_is_tested p s o plan site in_plan = within.within_is_tested p s o plan si
 pub children_of_new_are_new : ChildrenOfNewAreNew
 children_of_new_are_new p es t plan is = legal_new_children p plan es t is
 
-pub rows_tell_entries : RowsTellEntries
-rows_tell_entries p es t plan is = rows_tell p plan es t is
+pub rows_report_entries : RowsReportEntries
+rows_report_entries p es t plan is = rows_report p plan es t is
 
 pub sites_begin_once : SitesBeginOnce
 sites_begin_once p es t plan is = legal_begins p plan es t is

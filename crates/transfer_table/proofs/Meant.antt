@@ -9,7 +9,7 @@ use Rattle.transfer_table.specs.Entry.{registers, skips_over}
 use Rattle.transfer_table.specs.declared.entry.Stage.{Stage}
 use Rattle.transfer_table.specs.declared.entry.Entry.{Entry}
 use Rattle.transfer_table.specs.declared.entry.Stage.TheVariants.{Gone}
-use Rattle.transfer_table.proofs.Balance.{rows_tell}
+use Rattle.transfer_table.proofs.Balance.{rows_report}
 
 -- A site of a plan is meant if all are.
 pub all_are_meant : (p : Plan) (s : ℕ) → IsSite p s → is_meant (all_meant p) s ≡ true
@@ -22,7 +22,7 @@ came_once false r k came skipped none = absurd (omega (arith, skipped, none))
 -- A gone site that nothing skipped was registered once.
 pub gone_came : (p : Plan) (es : List Entry) (t : TableState) → IsPlan p → Reaches p es t → (s : ℕ) → IsSite p s → (row t s).stage ≡ Gone → skips_over p s es ≡ 0 → registers s es ≡ 1
 gone_came p es t plan reached s site gone none =
-    let counts = rows_tell p plan es t reached s site in
+    let counts = rows_report p plan es t reached s site in
     came_once (is_some (row t s).home) (registers s es) (skips_over p s es) counts.came
     (counts.skipped ∙ ap (λ (g : Stage). if (is_gone g && not (is_some (row t s).home)) then 1 else 0) gone) none
 

@@ -86,8 +86,8 @@ pub record IsCounted (p : Plan) (es : List Entry) (t : TableState) (s : ℕ) : T
       ≡ (if (is_gone (row t s).stage && not (is_some (row t s).home)) then 1 else 0)
 
 -- In each reachable state, the rows count the entries so.
-abbrev pub RowsTellEntries : Type 0
-RowsTellEntries = (p : Plan) (es : List Entry) (t : TableState) → IsPlan p → Reaches p es t
+abbrev pub RowsReportEntries : Type 0
+RowsReportEntries = (p : Plan) (es : List Entry) (t : TableState) → IsPlan p → Reaches p es t
     → (s : ℕ) → IsSite p s → IsCounted p es t s
 
 -- How a site begins and ends, by its own entries: it is registered or skipped at most once; a new site is neither, a live one

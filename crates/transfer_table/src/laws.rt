@@ -1,6 +1,6 @@
 //! The laws of the table, each the contract of a function with an empty body. They hold for every plan and every list of
 //! entries; `specs/Laws.antt` defines them.
-ghost use Rattle.transfer_table.specs.Laws.{AllowedIsAdmitted, EntriesAreInThePlan, HartsAreConserved, HomesStayInside, IdleHartsStay, LegalListsAreShort, NewRowsAreBlank, ParentsOutliveChildren, PrefixesAreLegal, RowsTellEntries, SitesBeginOnce, SitesComeAndGoOnce, WishesBalance, ChildrenOfNewAreNew, WithinIsTested};
+ghost use Rattle.transfer_table.specs.Laws.{AllowedIsAdmitted, EntriesAreInThePlan, HartsAreConserved, HomesStayInside, IdleHartsStay, LegalListsAreShort, NewRowsAreBlank, ParentsOutliveChildren, PrefixesAreLegal, RowsReportEntries, SitesBeginOnce, SitesComeAndGoOnce, WishesBalance, ChildrenOfNewAreNew, WithinIsTested};
 
 /// Every owner is the base or a live site, and the harts that the base and the sites hold are all
 /// harts.
@@ -71,8 +71,8 @@ pub fn children_of_new_are_new()
 {}
 
 /// The row of a site shows how often it was registered, unregistered and skipped.
-pub fn rows_tell_entries()
-    ensures { RowsTellEntries }
+pub fn rows_report_entries()
+    ensures { RowsReportEntries }
 {}
 
 /// A site is registered or skipped at most once. A site that was unregistered, or skipped itself, is gone. A gone site that was

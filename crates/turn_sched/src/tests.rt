@@ -29,7 +29,7 @@ fn children_are_lent_to_by_turns(rt: HostRuntime) -> Result<(), Fail> {
 }
 
 #[test]
-fn a_child_that_asks_again_keeps_its_place(rt: HostRuntime) -> Result<(), Fail> {
+fn a_child_that_requests_again_keeps_its_position(rt: HostRuntime) -> Result<(), Fail> {
     let mut turns = turns(rt.alloc())?;
     turns.request((), 5, 1);
     turns.request((), 7, 1);
@@ -79,7 +79,7 @@ fn contexts_run_in_turn_and_before_children(rt: HostRuntime) -> Result<(), Fail>
 }
 
 #[test]
-fn callbacks_tell_what_they_were_told(rt: HostRuntime) -> Result<(), Fail> {
+fn callbacks_return_receipts_of_their_calls(rt: HostRuntime) -> Result<(), Fail> {
     let mut turns = turns(rt.alloc())?;
     let told = Told {
         call: Call::Requested,

@@ -81,7 +81,7 @@ fn has_come_and_gone(board: &WideBoard, seat: &mut WideSeat) -> bool
 }
 
 // Whether the entries are these, and complete if only site 3 is meant to be entered.
-fn is_told(alloc: Global, plan: &Plan, entries: &[Entry]) -> Result<bool, Fail>
+fn is_reported(alloc: Global, plan: &Plan, entries: &[Entry]) -> Result<bool, Fail>
     requires { site_count plan.now ≡ 3 }
 {
     let meant = [false, false, true];
@@ -104,6 +104,6 @@ fn a_site_with_one_below_is_skipped(rt: HostRuntime) -> Result<(), Fail> {
     assert!(rt; is_seen(&board, &mut last));
     assert!(rt; has_come_and_gone(&board, &mut last));
     let closed = close(rt.alloc(), board, first, last, between)?;
-    assert!(rt; is_told(rt.alloc(), &plan, closed.entries())?);
+    assert!(rt; is_reported(rt.alloc(), &plan, closed.entries())?);
     Ok(())
 }

@@ -31,7 +31,7 @@ AreListed c = IsBlankOutside c.listed c.touches c.past
 -- There are as many touches as pasts, and no pieces crossed where none may have.
 pub record AreCells (c : CellParts) : Type 0 where
   pub size : length c.touches ≡ length c.past
-  pub told : c.crossed ≡ false → (cell : ℕ) → (past_in c.past cell).crossed ≡ false
+  pub noted : c.crossed ≡ false → (cell : ℕ) → (past_in c.past cell).crossed ≡ false
 
 -- The current phase, in which each cell has this touch, has joined the earlier ones.
 pub record AreSettled (before after : CellParts) (touch : ℕ → Touch) : Type 0 where

@@ -7,14 +7,14 @@ use Rattle.array_meaning.specs.Work.{Work, loop}
 use Rattle.array_meaning.specs.Touch.{IsSeparate}
 use Rattle.touch_bounds.specs.declared.touch.Touch.{Touch}
 use Rattle.touch_bounds.specs.Ranges.{Bounds, AreWithin}
-use Rattle.touch_bounds.specs.Touches.{DoClash, touch_at, IsWorkTold}
+use Rattle.touch_bounds.specs.Touches.{DoClash, touch_at, IsWorkNoted}
 use Rattle.phase_order.specs.Crossings.{IsPiece, HasNoCrossing}
 
 -- The recorded stretches of a body cover any of its turns from one number to before another.
-abbrev pub AreTurnsTold : Arrays → List Touch → Bounds → List ℕ → ℤ → ℤ → Work → Type 0
-AreTurnsTold arrays touches bounds var low high body =
+abbrev pub AreTurnsNoted : Arrays → List Touch → Bounds → List ℕ → ℤ → ℤ → Work → Type 0
+AreTurnsNoted arrays touches bounds var low high body =
     (from to : ℤ) → low ≤ℤ from → to ≤ℤ high →
-    IsWorkTold arrays touches bounds (loop var from to body)
+    IsWorkNoted arrays touches bounds (loop var from to body)
 
 -- The recorded stretches of one clash with those of the other on no array.
 abbrev pub AreClear : Arrays → List Touch → List Touch → Type 0

@@ -2,20 +2,20 @@
 -- Only the private contracts and the proofs of this crate need these.
 use Rattle.std.specs.Prelude.{ℕ, cond, Bool, true, false, ◌&&◌, ◌||◌, nat_eq, List, slice_index_or}
 use Rattle.site_walk.specs.declared.touched.Pieces.{Pieces}
-use Rattle.site_walk.specs.declared.touched.Pieces.TheVariants.{Nobody, One, Several}
+use Rattle.site_walk.specs.declared.touched.Pieces.TheVariants.{NoPiece, One, Several}
 use Rattle.site_walk.specs.declared.touched.Touched.{Touched}
 
 -- The pieces of both sets.
 abbrev pub joined_pieces : Pieces → Pieces → Pieces
-joined_pieces Nobody other = other
-joined_pieces (One p) Nobody = One p
+joined_pieces NoPiece other = other
+joined_pieces (One p) NoPiece = One p
 joined_pieces (One p) (One q) = cond (nat_eq p q) (One p) Several
 joined_pieces (One p) Several = Several
 joined_pieces Several other = Several
 
 -- The test is true if more than one piece touched.
 abbrev pub are_several : Pieces → Bool
-are_several Nobody = false
+are_several NoPiece = false
 are_several (One p) = false
 are_several Several = true
 
@@ -29,7 +29,7 @@ clashes t = t.written && are_several t.by
 
 -- No piece touched the cell.
 abbrev pub untouched : Touched
-untouched = record { by = Nobody; written = false }
+untouched = record { by = NoPiece; written = false }
 
 -- The touch at an index of a list; none after its end.
 abbrev pub touched_at : List Touched → ℕ → Touched

@@ -12,8 +12,8 @@ use Rattle.array_jobs.specs.Works.{WorkTree, branch_of, member_of, steps_of, sit
 use Rattle.step_eval.specs.declared.frames.Frame.{Frame}
 use Rattle.step_eval.specs.declared.frames.Frame.TheVariants.{Statements, Turns}
 use Rattle.step_eval.specs.declared.frames.Frames.{Frames}
-use Rattle.step_eval.specs.declared.told.Told.{Told}
-use Rattle.step_eval.specs.declared.told.Told.TheVariants.{Nothing, Skips}
+use Rattle.step_eval.specs.declared.reported.Reported.{Reported}
+use Rattle.step_eval.specs.declared.reported.Reported.TheVariants.{Nothing, Skips}
 use Rattle.step_eval.specs.Rest.{WorkAt, at, before}
 use Rattle.step_eval.specs.Moves.{moved, moved_writes, moved_sites}
 use Rattle.step_eval.specs.Passes.{pass_of}
@@ -97,23 +97,23 @@ HaveMoved arrays (w ∷ more) store next after store_after next_after =
     × (next_after ≡ next + moved_sites arrays store.cells w)
 
 -- The sites that a hart has to skip.
-abbrev pub span_told : Told → Option (ℕ × ℕ)
-span_told Nothing = None
-span_told (Skips first end) = Some (first, end)
+abbrev pub span_reported : Reported → Option (ℕ × ℕ)
+span_reported Nothing = None
+span_reported (Skips first end) = Some (first, end)
 
 -- The works have moved, and these are the sites that the hart has to skip.
-abbrev pub HaveTold : Arrays → Told → List WorkAt → Trace → ℕ → List WorkAt → Trace → ℕ → Type 0
-HaveTold arrays told works store next after store_after next_after =
-    (pass_of arrays store.cells next works ≡ span_told told)
+abbrev pub HaveReported : Arrays → Reported → List WorkAt → Trace → ℕ → List WorkAt → Trace → ℕ → Type 0
+HaveReported arrays reported works store next after store_after next_after =
+    (pass_of arrays store.cells next works ≡ span_reported reported)
     × HaveMoved arrays works store next after store_after next_after
 
 -- If a step was taken, the first work has moved. If not, no work remains.
-abbrev pub Went : Arrays → Option Told → List WorkAt → Trace → ℕ → List WorkAt → Trace → ℕ
+abbrev pub Went : Arrays → Option Reported → List WorkAt → Trace → ℕ → List WorkAt → Trace → ℕ
     → Type 0
 Went arrays None works store next after store_after next_after =
     (works ≡ []) × (after ≡ works) × (store_after ≡ store) × (next_after ≡ next)
-Went arrays (Some told) works store next after store_after next_after =
-    HaveTold arrays told works store next after store_after next_after
+Went arrays (Some reported) works store next after store_after next_after =
+    HaveReported arrays reported works store next after store_after next_after
 
 -- The loop on top has moved. It has no site after it, so no number is passed.
 abbrev pub HasTurned : Bor Block → ℤ → ℤ → Frames → Frames → Type 0

@@ -15,8 +15,8 @@ use Rattle.array_jobs.specs.Jobs.{JobParts, job_of}
 use Rattle.step_eval.specs.declared.stage.Stage.{Stage}
 use Rattle.step_eval.specs.declared.stage.Stage.TheVariants.{Going, Awaiting, Failed}
 use Rattle.step_eval.specs.declared.frames.Frames.{Frames}
-use Rattle.step_eval.specs.declared.told.Told.{Told}
-use Rattle.step_eval.specs.declared.told.Told.TheVariants.{Nothing, Skips}
+use Rattle.step_eval.specs.declared.reported.Reported.{Reported}
+use Rattle.step_eval.specs.declared.reported.Reported.TheVariants.{Nothing, Skips}
 use Rattle.step_eval.specs.Rest.{WorkAt}
 use Rattle.step_eval.specs.declared.found.Found.{Found}
 use Rattle.step_eval.specs.declared.found.Found.TheVariants as found
@@ -87,7 +87,7 @@ stage_by step.Finished = Going
 stage_by step.NoMemory = Going
 
 -- The result of a step that hands out no construct: no work remains, or the first work has moved.
-abbrev pub step_by : Option Told → Step Found
+abbrev pub step_by : Option Reported → Step Found
 step_by None = step.Finished
 step_by (Some Nothing) = step.More
 step_by (Some (Skips first end)) = step.Nest (found.Pass first end)

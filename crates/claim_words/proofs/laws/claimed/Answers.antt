@@ -2,7 +2,7 @@ use Rattle.std.proofs.Common.{◌≡◌, ◌++◌, [], ◌∷◌, List, ℕ, map
 use Rattle.claim_words.specs.declared.sight.Sight.{Sight}
 use Rattle.claim_words.specs.declared.seat.ClaimSeat.{ClaimSeat}
 use Rattle.claim_words.specs.Claims.{weigh, claims, past_word, once, is_claim}
-use Rattle.claim_words.specs.Seats.{AreOf, parts_of, claims_of, reads_past, kin}
+use Rattle.claim_words.specs.Seats.{AreOf, parts_of, claims_of, reads_past, identity}
 use Rattle.claim_words.proofs.Sums.{weigh-append}
 use Rattle.claim_words.proofs.Seats.{joins, settles, parts-snoc, claims-snoc, reads-snoc, of-snoc}
 use Rattle.claim_words.proofs.laws.claimed.Goals as goal
@@ -11,11 +11,11 @@ pub loop-other-init : goal.loop-other-init
 loop-other-init c =
     let first = c.in-Some.first in
     let split : c.args.seats.items ≡ c.pop.new.self.items ++ first ∷ [] = c.in-Some.ensures.items in
-    let are = of-snoc c.args.table c.pop.new.self.items first (subst (λ (l : List ClaimSeat). AreOf c.args.table (map kin l)) split c.requires.all.of) in (
+    let are = of-snoc c.args.table c.pop.new.self.items first (subst (λ (l : List ClaimSeat). AreOf c.args.table (map identity l)) split c.requires.all.of) in (
       are.0.0,
       first.no_slots,
       first.has_part,
-      sym (parts-snoc c.pop.new.self.items first) ∙ sym (ap (λ (l : List ClaimSeat). parts_of (map kin l)) split) ∙ c.requires.all.whole,
+      sym (parts-snoc c.pop.new.self.items first) ∙ sym (ap (λ (l : List ClaimSeat). parts_of (map identity l)) split) ∙ c.requires.all.whole,
       (λ r m. sym (claims-snoc r m c.pop.new.self.items first) ∙ sym (ap (claims_of r m) split)),
       are.1,
       (λ ws. sym (reads-snoc ws c.pop.new.self.items first) ∙ sym (ap (reads_past ws) split)),
@@ -25,7 +25,7 @@ pub join_seat-requires : goal.join_seat-requires
 join_seat-requires c =
     let i = c.loop-other.invariant in
     let other = c.in-Some-pop.other in
-    let are = of-snoc c.args.table c.pop-in-loop-other.new.self.items other (subst (λ (l : List ClaimSeat). AreOf c.args.table (map kin l)) c.in-Some-pop.ensures.items i.5) in (
+    let are = of-snoc c.args.table c.pop-in-loop-other.new.self.items other (subst (λ (l : List ClaimSeat). AreOf c.args.table (map identity l)) c.in-Some-pop.ensures.items i.5) in (
       i.0,
       are.0.0,
       other.no_slots,
@@ -39,12 +39,12 @@ loop-other-preserved c =
     let other = c.in-Some-pop.other in
     let left = c.pop-in-loop-other.new.self.items in
     let split : c.loop-other.seats.items ≡ left ++ other ∷ [] = c.in-Some-pop.ensures.items in
-    let are = of-snoc c.args.table left other (subst (λ (l : List ClaimSeat). AreOf c.args.table (map kin l)) split i.5) in
+    let are = of-snoc c.args.table left other (subst (λ (l : List ClaimSeat). AreOf c.args.table (map identity l)) split i.5) in
     let now = ap (λ (me : Sight × List (ℕ × ℕ)). me.0) c.join_seat.ensures.2 in
     let parts = ap (λ (v : Sight). v.parts) now in
     let part = i.2 in
     let count = parts-snoc left other in
-    let same = ap (λ (l : List ClaimSeat). parts_of (map kin l)) split in
+    let same = ap (λ (l : List ClaimSeat). parts_of (map identity l)) split in
     let whole = i.3 in (
       c.join_seat.ensures.0 ∙ i.0,
       ap (λ (me : Sight × List (ℕ × ℕ)). me.1) c.join_seat.ensures.2 ∙ i.1,
@@ -71,7 +71,7 @@ pub returns : goal.returns
 returns c =
     let i = c.loop-other.invariant in
     let none : c.loop-other.seats.items ≡ [] = search rules in
-    let whole : c.loop-other.first.me.0.parts ≡ 256 = (let w = i.3 in let p = ap (λ (l : List ClaimSeat). parts_of (map kin l)) none in omega (arith, w, p)) in
+    let whole : c.loop-other.first.me.0.parts ≡ 256 = (let w = i.3 in let p = ap (λ (l : List ClaimSeat). parts_of (map identity l)) none in omega (arith, w, p)) in
     let end = settles c.args.table.table.shared.key.items _ _ _ _ whole c.close_with.ensures.values.2 in record {
       accounted = record {
         words = end.0;

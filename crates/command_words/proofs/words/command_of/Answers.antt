@@ -1,9 +1,9 @@
 use Rattle.std.proofs.Common.{◌≡◌, List, ℕ, map, string_bytes, codes, true, false, sym, ap, ◌∙◌}
 use Rattle.std.specs.Str.{bytes_eq}
 use Rattle.clap.proofs.WalkLemmas.{list_any-map}
-use Rattle.command_words.specs.Asked.{asked_of, has_dashes}
+use Rattle.command_words.specs.Parsed.{parsed_from, has_dashes}
 use Rattle.command_words.proofs.Final.{without_dashes, dashes_no_form, refused_is}
-use Rattle.command_words.proofs.Forms.{asked_right}
+use Rattle.command_words.proofs.Forms.{parsed_right}
 use Rattle.command_words.proofs.words.command_of.Goals as goal
 
 pub returns-then-has_dashes : goal.returns-then-has_dashes
@@ -16,7 +16,7 @@ pub returns-in-Ok : goal.returns-in-Ok
 returns-in-Ok c =
     let words = map string_bytes c.args.words.now in
     let none : has_dashes words ≡ false = sym (list_any-map (λ (word : List ℕ). bytes_eq word (codes "--")) string_bytes c.args.words.now) ∙ sym c.if-has_dashes.ensures in
-    c.asked.ensures ∙ ap asked_of c.in-Ok.ensures.rows ∙ asked_right words (without_dashes words none) c.in-Ok.ensures.kinds
+    c.parsed.ensures ∙ ap parsed_from c.in-Ok.ensures.rows ∙ parsed_right words (without_dashes words none) c.in-Ok.ensures.kinds
 
 pub returns-in-Err : goal.returns-in-Err
 returns-in-Err c =

@@ -1,6 +1,6 @@
 use Rattle.std.proofs.Common.{map, length, ap, subst, arith}
 use Rattle.deque_rows.specs.declared.account.Log.{Log}
-use Rattle.deque_rows.specs.Account.{Tells}
+use Rattle.deque_rows.specs.Account.{Determines}
 use Rattle.deque_rows.specs.Rows.{pass_logs, stolen_by}
 use Rattle.deque_rows.proofs.Settles.{settled, few_rows}
 use Rattle.deque_rows.proofs.laws.settle_all.Goals as goal
@@ -16,4 +16,4 @@ returns c = λ r there.
     let first = c.args.rows.now in
     let stolen = stolen_by (map pass_logs first) r (length first) in
     let told = c.look_at_all.ensures r (let l = c.gather.auto.rows in omega (arith, there, l)) in
-    settled _ stolen told.0 (subst (λ (v : Log). Tells v told.0) (c.gather.ensures r there) told.1)
+    settled _ stolen told.0 (subst (λ (v : Log). Determines v told.0) (c.gather.ensures r there) told.1)

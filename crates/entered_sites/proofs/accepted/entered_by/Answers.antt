@@ -8,7 +8,7 @@ use Rattle.array_meaning.specs.Entered.{entered_of}
 use Rattle.array_meaning.proofs.InsideLemmas.{sized_in_range}
 use Rattle.array_meaning.proofs.PlanLemmas.{sequence_length}
 use Rattle.transfer_table.specs.Plan.{Plan}
-use Rattle.meant_sites.proofs.Parts.{every_site_is_told}
+use Rattle.meant_sites.proofs.Parts.{every_site_has_a_flag}
 use Rattle.entered_sites.proofs.accepted.entered_by.Goals as goal
 
 pub entered-requires-clause-sized : goal.entered-requires-clause-sized
@@ -28,5 +28,5 @@ returns-clause-each c =
     let program = program_of c.args.accepted.now.program in
     IfOk-weaker c.entered.result _ _
     (λ list is. ap length is ∙ ap (λ (p : Program). length (entered_of (program_of p))) c.program.ensures.same
-    ∙ every_site_is_told program c.args.accepted.now.plan c.program.ensures.kept.parents)
+    ∙ every_site_has_a_flag program c.args.accepted.now.plan c.program.ensures.kept.parents)
     c.entered.ensures

@@ -6,8 +6,8 @@ use Rattle.array_meaning.specs.Work.{loop, sequence_work}
 use Rattle.array_meaning.specs.Entered.{statement_part, sequence_part, branches_part, loop_part, phases_part}
 use Rattle.array_eval.specs.Traces.{traced}
 use Rattle.array_eval.specs.Views.{vars_of}
-use Rattle.entered_sites.specs.Told.{told}
-use Rattle.entered_sites.proofs.Telling.{statements_left, branches_left, phases_left, turns_left, statements_ended, branches_ended, phases_ended, plain_block, plain_loop}
+use Rattle.entered_sites.specs.Recorded.{recorded}
+use Rattle.entered_sites.proofs.Recording.{statements_left, branches_left, phases_left, turns_left, statements_ended, branches_ended, phases_ended, plain_block, plain_loop}
 use Rattle.entered_sites.proofs.walk.+walk.Goals as goal
 
 pub walk_block-returns-then-sites_in_block-eq0 : goal.walk_block-returns-then-sites_in_block-eq0
@@ -29,8 +29,8 @@ walk_statements-loop-statement-preserved t c =
     let arrays = c.args.layout.now in
     let vars = vars_of c.args.scope.now in
     let items = c.deref-statement-items.result.now in
-    ap (told arrays (sequence_part arrays (sequence (map statement_of (drop (c.loop-statement.statement-index + 1) items))) vars))
-    (c.in_ok-walk_statement.ensures ∙ ap (λ s. told arrays (statement_part arrays (statement_of s) vars) c.loop-statement.walker) c.statement-item.is)
+    ap (recorded arrays (sequence_part arrays (sequence (map statement_of (drop (c.loop-statement.statement-index + 1) items))) vars))
+    (c.in_ok-walk_statement.ensures ∙ ap (λ s. recorded arrays (statement_part arrays (statement_of s) vars) c.loop-statement.walker) c.statement-item.is)
     ∙ sym (statements_left arrays items c.loop-statement.statement-index c.statement-item.result vars c.loop-statement.walker c.loop-statement-test.true)
     ∙ c.loop-statement.invariant
 
@@ -44,8 +44,8 @@ walk_branches-loop-branch-preserved t c =
     let arrays = c.args.layout.now in
     let vars = vars_of c.args.scope.now in
     let items = c.deref-branch-items.result.now in
-    ap (told arrays (branches_part arrays (sequences (map sequence_of (drop (c.loop-branch.branch-index + 1) items))) vars))
-    (c.in_ok-walk_block.ensures ∙ ap (λ b. told arrays (sequence_part arrays (sequence_of b) vars) c.loop-branch.walker) c.branch-item.is)
+    ap (recorded arrays (branches_part arrays (sequences (map sequence_of (drop (c.loop-branch.branch-index + 1) items))) vars))
+    (c.in_ok-walk_block.ensures ∙ ap (λ b. recorded arrays (sequence_part arrays (sequence_of b) vars) c.loop-branch.walker) c.branch-item.is)
     ∙ sym (branches_left arrays items c.loop-branch.branch-index c.branch-item.result vars c.loop-branch.walker c.loop-branch-test.true)
     ∙ c.loop-branch.invariant
 
@@ -66,8 +66,8 @@ walk_loop-loop-number-preserved t c =
     let test = c.loop-number-test.true in
     let below : x <ℤ high = grind (arith, ints) in
     let next : to_z w64 (of_z w64 (x +ℤ pos 1)) ≡ x +ℤ pos 1 = omega (arith, ints) in
-    ap (λ y. told arrays (loop_part arrays var y high (sequence_part arrays body) vars) c.walk_statements.new.walker) next
-    ∙ ap (told arrays (loop_part arrays var (x +ℤ pos 1) high (sequence_part arrays body) vars)) c.in_ok-walk_statements.ensures
+    ap (λ y. recorded arrays (loop_part arrays var y high (sequence_part arrays body) vars) c.walk_statements.new.walker) next
+    ∙ ap (recorded arrays (loop_part arrays var (x +ℤ pos 1) high (sequence_part arrays body) vars)) c.in_ok-walk_statements.ensures
     ∙ sym (turns_left arrays var x high body vars c.loop-number.walker below)
     ∙ c.loop-number.invariant
 
@@ -79,8 +79,8 @@ walk_phases-loop-phase-preserved t c =
     let low = to_z w64 (of_z w64 c.args.low) in
     let high = to_z w64 (of_z w64 c.args.high) in
     let items = c.deref-phase-items.result.now in
-    ap (told arrays (phases_part arrays (sequences (map sequence_of (drop (c.loop-phase.phase-index + 1) items))) var low high vars))
-    (c.in_ok-walk_loop.ensures ∙ ap (λ b. told arrays (loop_part arrays var low high (sequence_part arrays (sequence_of b)) vars) c.loop-phase.walker) c.phase-item.is)
+    ap (recorded arrays (phases_part arrays (sequences (map sequence_of (drop (c.loop-phase.phase-index + 1) items))) var low high vars))
+    (c.in_ok-walk_loop.ensures ∙ ap (λ b. recorded arrays (loop_part arrays var low high (sequence_part arrays (sequence_of b)) vars) c.loop-phase.walker) c.phase-item.is)
     ∙ sym (phases_left arrays items c.loop-phase.phase-index c.phase-item.result var low high vars c.loop-phase.walker c.loop-phase-test.true)
     ∙ c.loop-phase.invariant
 
@@ -90,5 +90,5 @@ walk_phases-returns t c =
     let high = to_z w64 (of_z w64 c.args.high) in
     sym (phases_ended c.args.layout.now c.deref-phase-items.result.now c.loop-phase.phase-index c.args.var.now low high (vars_of c.args.scope.now) c.loop-phase.walker c.loop-phase-test.false)
     ∙ c.loop-phase.invariant
-    ∙ ap (λ x. told c.args.layout.now (phases_part c.args.layout.now (sequences_of c.args.phases.now) c.args.var.now x high (vars_of c.args.scope.now)) c.args.walker.now) (to_z-of_z w64 c.args.low c.ranges.low)
-    ∙ ap (λ x. told c.args.layout.now (phases_part c.args.layout.now (sequences_of c.args.phases.now) c.args.var.now c.args.low x (vars_of c.args.scope.now)) c.args.walker.now) (to_z-of_z w64 c.args.high c.ranges.high)
+    ∙ ap (λ x. recorded c.args.layout.now (phases_part c.args.layout.now (sequences_of c.args.phases.now) c.args.var.now x high (vars_of c.args.scope.now)) c.args.walker.now) (to_z-of_z w64 c.args.low c.ranges.low)
+    ∙ ap (λ x. recorded c.args.layout.now (phases_part c.args.layout.now (sequences_of c.args.phases.now) c.args.var.now c.args.low x (vars_of c.args.scope.now)) c.args.walker.now) (to_z-of_z w64 c.args.high c.ranges.high)

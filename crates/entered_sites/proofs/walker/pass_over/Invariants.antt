@@ -3,6 +3,6 @@ use Rattle.entered_sites.proofs.walker.pass_over.Given as goal
 
 abbrev pub invariant-loop-site : goal.invariant-loop-site
 invariant-loop-site l = record {
-  told : l.sites.items ≡ l.fn.sites.items ++ replicate l._site false;
+  recorded : l.sites.items ≡ l.fn.sites.items ++ replicate l._site false;
   long : l._site ≤ vec_len l.sites;
 }

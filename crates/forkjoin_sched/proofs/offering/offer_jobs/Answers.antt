@@ -1,6 +1,6 @@
 use Rattle.std.proofs.Common.{◌≡◌, ◌-◌, suc, [], length, slice_index, ap, subst, arith}
 use Rattle.array_jobs.specs.Jobs.{JobParts}
-use Rattle.deque_rows.specs.Rows.{Kin}
+use Rattle.deque_rows.specs.Rows.{Identity}
 use Rattle.deque_rows.specs.Calls.{Pushes}
 use Rattle.forkjoin_sched.specs.Hands.{code_at}
 use Rattle.forkjoin_sched.proofs.Offered.{HasOffered, offered_none, offered_skip, offered_more, offered_all}
@@ -17,7 +17,7 @@ push-requires-clause-room g c =
     let is = room_after c.args.site c.args.level h.0 c.args.rows.now c.loop-place.rows c.requires.level h.1.pushes in
     let room = c.requires.room in
     let there = c.loop-place-test.true in
-    let made = ap (λ (k : Kin). slice_index k.rooms (c.args.level - 1)) h.1.pushes.kin in
+    let made = ap (λ (k : Identity). slice_index k.rooms (c.args.level - 1)) h.1.pushes.identity in
     omega (arith, few, is, room, there, made)
 
 pub loop-place-preserved-in-Some : goal.loop-place-preserved-in-Some
@@ -30,7 +30,7 @@ loop-place-preserved-in-Some g c =
     let coded = subst (λ n. Pushes c.loop-place.rows c.args.level n c.push.new.self) c.code_at-code.ensures c.push.ensures.pushes in
     let push = subst (λ n. Pushes c.loop-place.rows c.args.level (code_at c.args.site n) c.push.new.self) (ap (λ (j : JobParts). j.place) c.job.view_is) coded in (
       _,
-      offered_more c.args.site c.args.level (length c.args.slots.now) k c.args.pool.now c.loop-place.pool c.take_last.new.self c.args.rows.now c.loop-place.rows c.push.new.self h.0 c.in-Some.job c.requires.level so c.in-Some.ensures c.push.ensures.kin push,
+      offered_more c.args.site c.args.level (length c.args.slots.now) k c.args.pool.now c.loop-place.pool c.take_last.new.self c.args.rows.now c.loop-place.rows c.push.new.self h.0 c.in-Some.job c.requires.level so c.in-Some.ensures c.push.ensures.identity push,
     )
 
 pub loop-place-preserved : goal.loop-place-preserved

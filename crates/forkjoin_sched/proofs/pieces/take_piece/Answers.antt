@@ -1,5 +1,5 @@
 use Rattle.std.proofs.Common.{◌∙◌, ap, refl, sym, subst}
-use Rattle.deque_rows.specs.Rows.{Kin}
+use Rattle.deque_rows.specs.Rows.{Identity}
 use Rattle.forkjoin_sched.specs.Hands.{HasTaken}
 use Rattle.forkjoin_sched.proofs.RowSteps.{keeps_none, keeps_then, takes_none, takes_then, taken_then}
 use Rattle.forkjoin_sched.proofs.pieces.take_piece.Goals as goal
@@ -17,6 +17,6 @@ returns-in-Some-job_of-clause-takes g c = (
 pub loop-preserved : goal.loop-preserved
 loop-preserved g c = (
   keeps_then c.args.rows.now c.loop.rows c.take_code.new.rows c.loop.invariant.0 c.take_code.ensures.keeps,
-  ap (λ (k : Kin). k.harts) c.take_code.ensures.keeps.kin ∙ c.loop.invariant.1,
+  ap (λ (k : Identity). k.harts) c.take_code.ensures.keeps.identity ∙ c.loop.invariant.1,
   takes_then c.args.rows.now c.loop.rows c.take_code.new.rows c.args.home c.args.level c.loop.invariant.2 c.take_code.ensures.more,
 )

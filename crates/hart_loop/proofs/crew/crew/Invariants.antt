@@ -7,7 +7,7 @@ use Rattle.hart_loop.proofs.crew.crew.Given as goal
 abbrev pub invariant-loop-port : goal.invariant-loop-port
 invariant-loop-port g l = record {
   ports : map (λ hart. hart.port) l.harts.items ≡ l.yielded;
-  rows : map (λ hart. hart.schedulers.tools.rows) l.harts.items ++ map (λ t. t.rows) (reverse l.tools.items) ≡ map codes.kin l.fn.stock.rows.items;
-  claims : map (λ hart. hart.schedulers.tools.seat) l.harts.items ++ map (λ t. t.seat) (reverse l.tools.items) ≡ map words.kin l.fn.stock.claims.items;
+  rows : map (λ hart. hart.schedulers.tools.rows) l.harts.items ++ map (λ t. t.rows) (reverse l.tools.items) ≡ map codes.identity l.fn.stock.rows.items;
+  claims : map (λ hart. hart.schedulers.tools.seat) l.harts.items ++ map (λ t. t.seat) (reverse l.tools.items) ≡ map words.identity l.fn.stock.claims.items;
   count : length l.yielded + vec_len l.tools ≡ vec_len l.fn.stock.ports;
 }

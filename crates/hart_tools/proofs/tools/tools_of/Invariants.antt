@@ -7,11 +7,11 @@ use Rattle.hart_tools.proofs.tools.tools_of.Given as goal
 -- The remaining loans are unchanged, and the tools have the loans taken so far.
 abbrev pub invariant-loop-own : goal.invariant-loop-own
 invariant-loop-own l = record {
-  rows : map codes.kin l.rows.items ++ map (λ t. t.rows) (reverse l.tools.items) ≡ map codes.kin l.fn.rows.items;
-  seats : map words.kin l.claims.items ++ map (λ t. t.seat) (reverse l.tools.items) ≡ map words.kin l.fn.claims.items;
+  rows : map codes.identity l.rows.items ++ map (λ t. t.rows) (reverse l.tools.items) ≡ map codes.identity l.fn.rows.items;
+  seats : map words.identity l.claims.items ++ map (λ t. t.seat) (reverse l.tools.items) ≡ map words.identity l.fn.claims.items;
   count : vec_len l.claims ≡ vec_len l.rows;
   reaches : (h : ℕ) (d : HartRows) → h < length l.rows.items → (get_or l.rows.items h d).harts ≡ l.harts;
-  of : words.AreOf l.words.table (map words.kin l.claims.items);
+  of : words.AreOf l.words.table (map words.identity l.claims.items);
 }
 
 abbrev pub decreases-loop-own : goal.decreases-loop-own

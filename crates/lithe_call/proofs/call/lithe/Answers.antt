@@ -2,36 +2,36 @@ use Rattle.std.proofs.Common.{List, ℕ, refl, sym, subst, map, string_bytes}
 use Rattle.outside_io.specs.Outside.{Appends}
 use Rattle.lithe_call.specs.declared.status.Status.{Status}
 use Rattle.lithe_call.specs.Served.{Outside, AreServed}
-use Rattle.lithe_call.specs.Telling.{AppendsPrefix}
+use Rattle.lithe_call.specs.Printing.{AppendsPrefix}
 use Rattle.lithe_call.proofs.Serving.{fault_served, part_served, whole_served}
 use Rattle.lithe_call.proofs.call.lithe.Goals as goal
 
 pub returns-in-Err : goal.returns-in-Err
 returns-in-Err g c =
-    let see : Outside _ _ _ = record { left = g.A.Source.left; read_faults = g.A.Source.faults; taken = g.B.Sink.taken; write_faults = g.B.Sink.faults; told = g.E.Sink.taken; tell_faults = g.E.Sink.faults } in
+    let see : Outside _ _ _ = record { left = g.A.Source.left; read_faults = g.A.Source.faults; taken = g.B.Sink.taken; write_faults = g.B.Sink.faults; printed = g.E.Sink.taken; print_faults = g.E.Sink.faults } in
     let words = map string_bytes c.args.words.now in
     record {
-      served = subst (λ (s : Status). AreServed see words s c.args.source.now c.output_of.new.source c.args.out.now c.args.out.now c.args.err.now c.tell_fault.new.err)
-          (sym c.tell_fault.ensures.same)
-          (fault_served see words c.args.source.now c.output_of.new.source c.in-Err.fault c.args.out.now c.args.err.now c.tell_fault.new.err
-          c.in-Err.ensures.fault (c.output_of.ensures.stays, c.output_of.ensures.made) c.tell_fault.ensures.told);
+      served = subst (λ (s : Status). AreServed see words s c.args.source.now c.output_of.new.source c.args.out.now c.args.out.now c.args.err.now c.print_fault.new.err)
+          (sym c.print_fault.ensures.same)
+          (fault_served see words c.args.source.now c.output_of.new.source c.in-Err.fault c.args.out.now c.args.err.now c.print_fault.new.err
+          c.in-Err.ensures.fault (c.output_of.ensures.stays, c.output_of.ensures.made) c.print_fault.ensures.printed);
     }
 
 pub returns-then-not-write_all : goal.returns-then-not-write_all
 returns-then-not-write_all g c =
-    let see : Outside _ _ _ = record { left = g.A.Source.left; read_faults = g.A.Source.faults; taken = g.B.Sink.taken; write_faults = g.B.Sink.faults; told = g.E.Sink.taken; tell_faults = g.E.Sink.faults } in
+    let see : Outside _ _ _ = record { left = g.A.Source.left; read_faults = g.A.Source.faults; taken = g.B.Sink.taken; write_faults = g.B.Sink.faults; printed = g.E.Sink.taken; print_faults = g.E.Sink.faults } in
     let words = map string_bytes c.args.words.now in
     let taken = subst (λ (text : List ℕ). AppendsPrefix (g.B.Sink.taken c.args.out.now) text (g.B.Sink.taken c.write_all.new.out)) c.deref.ensures.value (c.if-not-write_all.ensures.prefix refl) in
     record {
-      served = subst (λ (s : Status). AreServed see words s c.args.source.now c.output_of.new.source c.args.out.now c.write_all.new.out c.args.err.now c.tell.new.err)
-          (sym c.tell.ensures.same)
-          (part_served see words c.args.source.now c.output_of.new.source c.in-Ok.answer.ending c.in-Ok.answer.text.items c.args.out.now c.write_all.new.out c.args.err.now c.tell.new.err
-          c.in-Ok.ensures.output (c.output_of.ensures.stays, c.output_of.ensures.made) (c.if-not-write_all.ensures.failed refl) taken c.tell.ensures.told);
+      served = subst (λ (s : Status). AreServed see words s c.args.source.now c.output_of.new.source c.args.out.now c.write_all.new.out c.args.err.now c.print.new.err)
+          (sym c.print.ensures.same)
+          (part_served see words c.args.source.now c.output_of.new.source c.in-Ok.answer.ending c.in-Ok.answer.text.items c.args.out.now c.write_all.new.out c.args.err.now c.print.new.err
+          c.in-Ok.ensures.output (c.output_of.ensures.stays, c.output_of.ensures.made) (c.if-not-write_all.ensures.failed refl) taken c.print.ensures.printed);
     }
 
 pub returns : goal.returns
 returns g c =
-    let see : Outside _ _ _ = record { left = g.A.Source.left; read_faults = g.A.Source.faults; taken = g.B.Sink.taken; write_faults = g.B.Sink.faults; told = g.E.Sink.taken; tell_faults = g.E.Sink.faults } in
+    let see : Outside _ _ _ = record { left = g.A.Source.left; read_faults = g.A.Source.faults; taken = g.B.Sink.taken; write_faults = g.B.Sink.faults; printed = g.E.Sink.taken; print_faults = g.E.Sink.faults } in
     let words = map string_bytes c.args.words.now in
     let taken = subst (λ (text : List ℕ). Appends (g.B.Sink.taken c.args.out.now) text (g.B.Sink.taken c.write_all.new.out)) c.deref.ensures.value (c.if-not-write_all.ensures.done refl) in
     record {

@@ -2,12 +2,12 @@ use Rattle.std.proofs.Common.{ℕ, subst}
 use Rattle.array_tree.specs.Trees.{program_of}
 use Rattle.command_words.specs.Parts.{harts_in}
 use Rattle.lithe_call.specs.Faults.{SpellRefused, IsNoRun}
-use Rattle.lithe_call.proofs.Causes.{syntax_line_told, refused_line}
+use Rattle.lithe_call.proofs.Causes.{syntax_line_printed, refused_line}
 use Rattle.lithe_call.proofs.run.answer.Goals as goal
 
 pub returns-in-Err-clause-fault : goal.returns-in-Err-clause-fault
 returns-in-Err-clause-fault g c =
-    syntax_line_told (SpellRefused (harts_in c.args.command)) c.args.bytes.now c.in-Err.fault c.syntax_fault.result c.requires.short c.syntax_fault.ensures c.in-Err.ensures.only c.in-Err.ensures.fault
+    syntax_line_printed (SpellRefused (harts_in c.args.command)) c.args.bytes.now c.in-Err.fault c.syntax_fault.result c.requires.short c.syntax_fault.ensures c.in-Err.ensures.only c.in-Err.ensures.fault
 
 pub returns-in-Err-check-clause-fault : goal.returns-in-Err-check-clause-fault
 returns-in-Err-check-clause-fault g c =

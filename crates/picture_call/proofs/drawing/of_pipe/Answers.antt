@@ -7,7 +7,7 @@ use Rattle.transfer_table.specs.Plan.{Plan}
 use Rattle.phase_order.specs.Crossings.{HasNoCrossings}
 use Rattle.pipe_walk.specs.FirstCrossing.{IsFaultOf}
 use Rattle.run_picture.specs.Seen.{picture_seen}
-use Rattle.lithe_call.proofs.Piping.{check_told, crossing_told}
+use Rattle.lithe_call.proofs.Piping.{check_printed, crossing_printed}
 use Rattle.picture_call.specs.declared.runner.Runner.TheVariants as runner
 use Rattle.picture_call.specs.Pictures.{teams_of}
 use Rattle.picture_call.proofs.Refusing.{pipe_no_picture, plan_no_picture, plan_picture, plan_runs, right_plan}
@@ -17,13 +17,13 @@ pub returns-in-Err-clause-fault : goal.returns-in-Err-clause-fault
 returns-in-Err-clause-fault c =
     let program = program_of c.args.program.now in
     pipe_no_picture c.args.harts program c.args.output.now c.refusal.result
-    (check_told c.args.harts program c.in-Err.fault c.refusal.result c.refusal.ensures c.in-Err.ensures.fault)
+    (check_printed c.args.harts program c.in-Err.fault c.refusal.result c.refusal.ensures c.in-Err.ensures.fault)
 
 pub returns-in-Err-pipe_check-clause-fault : goal.returns-in-Err-pipe_check-clause-fault
 returns-in-Err-pipe_check-clause-fault c =
     let program = program_of c.args.program.now in
     pipe_no_picture c.args.harts program c.args.output.now c.crossing_fault.result
-    (crossing_told c.args.harts program c.in-Err-pipe_check.fault c.crossing_fault.result c.in-Ok.ensures.accepted c.crossing_fault.ensures
+    (crossing_printed c.args.harts program c.in-Err-pipe_check.fault c.crossing_fault.result c.in-Ok.ensures.accepted c.crossing_fault.ensures
     (subst (λ (p : Program). IsFaultOf (program_of p) c.in-Err-pipe_check.fault) c.in-Ok.ensures.program c.in-Err-pipe_check.ensures.fault))
 
 pub by_plan-requires-clause-sized : goal.by_plan-requires-clause-sized

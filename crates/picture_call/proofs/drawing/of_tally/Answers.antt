@@ -6,7 +6,7 @@ use Rattle.array_meaning.specs.Plans.{plan_of}
 use Rattle.disjoint_check.specs.Meaning.{IsAcceptedFor}
 use Rattle.transfer_table.specs.Plan.{Plan}
 use Rattle.run_picture.specs.Seen.{picture_seen}
-use Rattle.lithe_call.proofs.Tallying.{rows_told}
+use Rattle.lithe_call.proofs.Tallying.{rows_printed}
 use Rattle.picture_call.specs.declared.runner.Runner.TheVariants as runner
 use Rattle.picture_call.specs.Pictures.{teams_of}
 use Rattle.picture_call.proofs.Refusing.{tally_no_picture, plan_no_picture, plan_picture, plan_runs, right_plan}
@@ -16,7 +16,7 @@ pub returns-in-Err-clause-fault : goal.returns-in-Err-clause-fault
 returns-in-Err-clause-fault c =
     let program = program_of c.args.program.now in
     tally_no_picture c.args.harts program c.args.output.now c.refusal.result
-    (rows_told c.args.harts program (program_of c.in_ok-rows.rows) c.in-Err.fault c.refusal.result
+    (rows_printed c.args.harts program (program_of c.in_ok-rows.rows) c.in-Err.fault c.refusal.result
     c.in_ok-rows.ensures.meaning c.in_ok-rows.ensures.shaped c.in_ok-rows.ensures.spread c.refusal.ensures c.in-Err.ensures.fault)
 
 pub by_plan-requires-clause-sized : goal.by_plan-requires-clause-sized

@@ -6,7 +6,7 @@ use Rattle.array_meaning.specs.Sites.{sequence_sites}
 use Rattle.array_meaning.specs.Accepted.{IsAccepted}
 use Rattle.phase_order.specs.Crossings.{HasNoCrossings}
 use Rattle.pipe_walk.specs.FirstCrossing.{first_crossing, IsFaultOf}
-use Rattle.pipe_walk.proofs.FitLemmas.{none_crosses, fault_told, accepted_sized}
+use Rattle.pipe_walk.proofs.FitLemmas.{none_crosses, fault_noted, accepted_sized}
 use Rattle.pipe_walk.proofs.check.pipe_check.Goals as goal
 
 pub new-requires : goal.new-requires
@@ -21,7 +21,7 @@ returns-in-Some-clause-fault c =
     let sites = sequence_sites program.body [] in
     let found : first_crossing (arrays_of program.arrays) sites ≡ Some c.in-Some.fault
     = ap (λ (arrays : Arrays). first_crossing arrays sites) (sym c.in-Ok.ensures) ∙ sym c.seek_block.ensures.found ∙ c.in-Some.is in
-    subst (λ (p : Program). IsFaultOf (program_of p) c.in-Some.fault) c.program-program.ensures.same (fault_told program accepted c.in-Some.fault found)
+    subst (λ (p : Program). IsFaultOf (program_of p) c.in-Some.fault) c.program-program.ensures.same (fault_noted program accepted c.in-Some.fault found)
 
 pub returns-clause-ok : goal.returns-clause-ok
 returns-clause-ok c =

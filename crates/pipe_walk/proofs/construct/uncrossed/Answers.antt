@@ -5,7 +5,7 @@ use Rattle.array_meaning.specs.Stores.{arrays_of}
 use Rattle.step_eval.specs.Nests.{NestedParts, nested_of, phases_of, rounds_of}
 use Rattle.step_eval.specs.Shapes.{members_of}
 use Rattle.phase_order.specs.Crossings.{HasNoCrossing}
-use Rattle.pipe_walk.proofs.FitLemmas.{nest_sized, nest_within, clear_told, none_told}
+use Rattle.pipe_walk.proofs.FitLemmas.{nest_sized, nest_within, clear_noted, none_noted}
 use Rattle.pipe_walk.proofs.construct.uncrossed.Goals as goal
 
 pub construct_crossing-requires : goal.construct_crossing-requires
@@ -24,7 +24,7 @@ returns c =
     let nest : NestedParts = record { arrays = inside.arrays.now; site = inside.site; construct = inside.construct.now; vars = inside.vars; store = inside.store } in
     let arrays = arrays_of (declarations_of nest.arrays) in
     let rounds = rounds_of (statement_of nest.construct) nest.vars in
-    let told = rw c.in_ok-crossing.was at c.construct_crossing.ensures in
-    let least = clear_told arrays rounds (nest_within (nested_of nest) c.nested.invariant) c.in_ok-crossing.crossing told in
+    let noted = rw c.in_ok-crossing.was at c.construct_crossing.ensures in
+    let least = clear_noted arrays rounds (nest_within (nested_of nest) c.nested.invariant) c.in_ok-crossing.crossing noted in
     subst (λ (n : NestedParts). (IsTrue c.is_none.result) ↔ HasNoCrossing (arrays_of (declarations_of n.arrays)) (rounds_of (statement_of n.construct) n.vars)) c.nested.view_is
-    (none_told arrays rounds c.in_ok-crossing.crossing c.is_none.result c.is_none.ensures least)
+    (none_noted arrays rounds c.in_ok-crossing.crossing c.is_none.result c.is_none.ensures least)

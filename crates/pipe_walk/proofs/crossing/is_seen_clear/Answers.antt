@@ -34,6 +34,6 @@ returns c =
     let arrays = c.args.layout.now in
     let vars = vars_of c.args.scope.now in
     let rounds = phase_rounds (sequences_of c.args.phases.now) c.args.var.now c.args.low c.args.high c.args.members vars in
-    let told = rw (to_z-of_z w64 c.args.low c.ranges.low, to_z-of_z w64 c.args.high c.ranges.high) at c.members_are_clear.ensures in
+    let noted = rw (to_z-of_z w64 c.args.low c.ranges.low, to_z-of_z w64 c.args.high c.ranges.high) at c.members_are_clear.ensures in
     OnTrue_from c.members_are_clear.result (crossing arrays (cells_of arrays) rounds ≡ None)
-    (λ yes. nothing_found arrays rounds (OnTrue_at yes told vars (fixed_within vars)))
+    (λ yes. nothing_found arrays rounds (OnTrue_at yes noted vars (fixed_within vars)))

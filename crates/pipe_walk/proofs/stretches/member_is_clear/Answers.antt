@@ -8,8 +8,8 @@ use Rattle.array_meaning.specs.Members.{start_of}
 use Rattle.array_meaning.specs.Sites.{phase_rounds}
 use Rattle.touch_bounds.specs.declared.touch.Touch.{Touch}
 use Rattle.touch_bounds.specs.Ranges.{bounds_of}
-use Rattle.pipe_walk.specs.Inside.Stretches.{AreTurnsTold, IsMemberAlwaysClear}
-use Rattle.pipe_walk.proofs.StretchLemmas.{rounds_in, own_told, above_told, none_passed, one_passed, all_passed}
+use Rattle.pipe_walk.specs.Inside.Stretches.{AreTurnsNoted, IsMemberAlwaysClear}
+use Rattle.pipe_walk.proofs.StretchLemmas.{rounds_in, own_noted, above_noted, none_passed, one_passed, all_passed}
 use Rattle.pipe_walk.proofs.stretches.member_is_clear.Goals as goal
 
 pub loop-phase-init : goal.loop-phase-init
@@ -42,7 +42,7 @@ loop-phase-preserved c =
     = to_z-of_z w64 to (record { sfits = c.start_of_member-end.type_inv }) ∙ c.start_of_member-end.ensures in
     let lasts : to_z w64 (of_z w64 top) ≡ start_of low high members members
     = to_z-of_z w64 top (record { sfits = c.start_of_member-last.type_inv }) ∙ c.start_of_member-last.ensures in
-    let turns = λ (t : List Touch) (x y : ℤ) (b : Block). AreTurnsTold arrays t bounds var x y (sequence_work (sequence_of b)) in
+    let turns = λ (t : List Touch) (x y : ℤ) (b : Block). AreTurnsNoted arrays t bounds var x y (sequence_work (sequence_of b)) in
     let own_is : turns own (start_of low high members member) (start_of low high members (member + 1)) (get_or items i d)
     = subst (turns own (start_of low high members member) (start_of low high members (member + 1))) c.phase-item.is
     (subst (λ y. turns own (start_of low high members member) y d) ends
@@ -53,8 +53,8 @@ loop-phase-preserved c =
     (subst (λ x. turns after x (to_z w64 (of_z w64 top)) d) ends c.if-not-phase_is_clear.ensures.above)) in
     one_passed arrays bounds member i (rounds_in items var low high members) own before after c.loop-phase.invariant
     c.if-not-phase_is_clear.ensures.clear c.phase_is_clear.ensures.wider
-    (own_told arrays own bounds items var low high members d member i own_is)
-    (above_told arrays after bounds items var low high members d member i above_is)
+    (own_noted arrays own bounds items var low high members d member i own_is)
+    (above_noted arrays after bounds items var low high members d member i above_is)
 
 pub returns : goal.returns
 returns c =

@@ -6,4 +6,4 @@ pub steal-requires-clause-hart : goal.steal-requires-clause-hart
 steal-requires-clause-hart g c = subst (λ n. c.args.hart < n) (sym (reaches_all c.args.rows.now c.requires.all c.args.thief c.index-rows-thief.result c.requires.thief)) c.requires.row.1
 
 pub returns : goal.returns
-returns g c = one_moved c.args.rows.now c.args.thief c.steal.new.self c.index-rows-thief.result c.steal.ensures.kin
+returns g c = one_moved c.args.rows.now c.args.thief c.steal.new.self c.index-rows-thief.result c.steal.ensures.identity

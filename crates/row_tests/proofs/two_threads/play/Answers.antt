@@ -1,6 +1,6 @@
 use Rattle.std.proofs.Common.{sym, ap, ◌∙◌, arith}
 use Rattle.deque_rows.specs.declared.hart.HartRows.{HartRows}
-use Rattle.deque_rows.specs.Rows.{kin}
+use Rattle.deque_rows.specs.Rows.{identity}
 use Rattle.deque_rows.proofs.Callers.{each_moved, reaches_all}
 use Rattle.row_tests.proofs.two_threads.play.Goals as goal
 
@@ -12,4 +12,4 @@ for_each_mut-requires-clause-accepts g c κs within = λ i p there is.
 pub returns : goal.returns
 returns g c = each_moved c.args.rows.now c.for_each_mut.new.s c.for_each_mut.auto.s (λ h d below.
     let moved = (c.for_each_mut.ensures h d below).1 in
-    ap kin (sym moved.left) ∙ moved.call ∙ ap kin moved.argument_is)
+    ap identity (sym moved.left) ∙ moved.call ∙ ap identity moved.argument_is)

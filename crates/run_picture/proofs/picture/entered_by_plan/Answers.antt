@@ -2,7 +2,7 @@ use Rattle.std.proofs.Common.{◌∙◌, length, ap}
 use Rattle.std.proofs.lemmas.Result.{IfOk-weaker}
 use Rattle.array_tree.specs.Trees.{program_of}
 use Rattle.array_meaning.proofs.PlanLemmas.{sequence_length}
-use Rattle.meant_sites.proofs.Parts.{every_site_is_told}
+use Rattle.meant_sites.proofs.Parts.{every_site_has_a_flag}
 use Rattle.run_picture.proofs.picture.entered_by_plan.Goals as goal
 
 pub entered-requires-clause-sites : goal.entered-requires-clause-sites
@@ -12,5 +12,5 @@ entered-requires-clause-sites c =
 pub returns-clause-each : goal.returns-clause-each
 returns-clause-each c =
     IfOk-weaker c.entered.result _ _
-    (λ list is. ap length is ∙ every_site_is_told (program_of c.args.program.now) c.args.plan.now c.requires.parents)
+    (λ list is. ap length is ∙ every_site_has_a_flag (program_of c.args.program.now) c.args.plan.now c.requires.parents)
     c.entered.ensures

@@ -11,15 +11,15 @@ row_fits : (c : goal.Joined-row-3) → c.len.result < 2 ^ 63
 row_fits c =
     let small = c.loop-branch.blocks.small in
     let ok = c.loop-branch.blocks.ok in
-    let told = c.len.ensures in
-    omega (arith, small, ok, told)
+    let reported = c.len.ensures in
+    omega (arith, small, ok, reported)
 
 row_number : (c : goal.Joined-row-3) → c.len.result ≡ c.loop-branch.branch-index
 row_number c =
     let ok = c.loop-branch.blocks.ok in
-    let told = c.len.ensures in
+    let reported = c.len.ensures in
     let count = c.loop-branch.invariant.count in
-    omega (arith, ok, told, count)
+    omega (arith, ok, reported, count)
 
 count_next : (c : goal.Joined-row-3) → length c.push.new.self.items ≡ c.loop-branch.branch-index + 1
 count_next c =

@@ -8,4 +8,4 @@ use Rattle.touch_bounds.proofs.expression.+interval_of.Goals as goal
 pub returns-in-Var : goal.returns-in-Var
 returns-in-Var t c arrays vars store within =
     rw c.in-Var.is
-    (subst (λ told. LiesIn told (var_of vars c.in-Var.name)) (sym c.get.ensures) (var_within (bounds_of c.args.ranges.now) vars c.in-Var.name within))
+    (subst (λ noted. LiesIn noted (var_of vars c.in-Var.name)) (sym c.get.ensures) (var_within (bounds_of c.args.ranges.now) vars c.in-Var.name within))

@@ -11,6 +11,6 @@ returns-in_ok-constant-in-Div c =
     let fits : FitsSigned w64 c.in_ok-constant-in-Div.field-0 = search rules in
     rw c.in-Div.is
     (IfSome_then c.quotient.result c.quotient.ensures
-    (λ told leads x y hx hy.
+    (λ noted leads x y hx hy.
     let only : y ≡ to_z w64 (of_z w64 c.in_ok-constant-in-Div.field-0) = c.in_ok-constant-in-Div.ensures y hy ∙ sym (to_z-of_z w64 c.in_ok-constant-in-Div.field-0 fits) in
-    subst (λ d. LiesIn told (quotient x d)) (sym only) (leads x hx)))
+    subst (λ d. LiesIn noted (quotient x d)) (sym only) (leads x hx)))

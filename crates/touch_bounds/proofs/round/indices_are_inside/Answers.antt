@@ -6,7 +6,7 @@ use Rattle.array_meaning.specs.Touch.{walk}
 use Rattle.array_meaning.specs.Accepted.{are_inside}
 use Rattle.array_eval.specs.Views.{vars_of}
 use Rattle.touch_bounds.proofs.RangeLemmas.{fixed_within}
-use Rattle.touch_bounds.proofs.RoundLemmas.{told_inside}
+use Rattle.touch_bounds.proofs.RoundLemmas.{noted_inside}
 use Rattle.touch_bounds.proofs.round.indices_are_inside.Goals as goal
 
 pub returns-in-Ok : goal.returns-in-Ok
@@ -14,5 +14,5 @@ returns-in-Ok c =
     let arrays = c.args.layout.now in
     let vars = vars_of c.args.scope.now in
     let visits = walk arrays (statement_work (statement_of c.args.statement.now) vars) in
-    OnTrue_from c.tell_statement.result (IsTrue (are_inside arrays visits))
-    (λ yes. told_inside arrays c.tell_statement.new.touches visits (OnTrue_at yes c.tell_statement.ensures.told vars (fixed_within vars)))
+    OnTrue_from c.note_statement.result (IsTrue (are_inside arrays visits))
+    (λ yes. noted_inside arrays c.note_statement.new.touches visits (OnTrue_at yes c.note_statement.ensures.noted vars (fixed_within vars)))

@@ -7,7 +7,7 @@ use Rattle.array_meaning.specs.Sites.{loop_sites, statement_sites, sequence_site
 use Rattle.touch_bounds.specs.Intervals.{LiesIn}
 use Rattle.touch_bounds.specs.Ranges.{bounds_of}
 use Rattle.touch_bounds.specs.Pieces.{AreAllSitesApart}
-use Rattle.touch_bounds.proofs.SumLemmas.{told}
+use Rattle.touch_bounds.proofs.SumLemmas.{noted}
 use Rattle.touch_bounds.proofs.SiteLemmas.{both_apart, statements_apart, branches_apart, phases_apart, loop_apart}
 use Rattle.touch_bounds.proofs.TreeLemmas.{statement-if}
 use Rattle.touch_bounds.proofs.sites.+settle.Goals as goal
@@ -50,7 +50,7 @@ loop_is_settled-returns t c =
     let fits : FitsSigned w64 low = c.ranges.low in
     let fits' : FitsSigned w64 high = c.ranges.high in
     let some : low <ℤ high = grind (arith, ints) in
-    let within = told low (to_z w64 (of_z w64 high) -ℤ pos 1) in
+    let within = noted low (to_z w64 (of_z w64 high) -ℤ pos 1) in
     let lies : (x : ℤ) → low ≤ℤ x → x <ℤ high → LiesIn within x = λ x from to. record { low = omega (arith, ints); high = omega (arith, ints) } in
     OnTrue_from c.block_is_settled.result (AreAllSitesApart arrays bounds (loop_sites c.args.var.now low high body))
     (λ yes. loop_apart arrays bounds c.args.var.now low high within body some lies (OnTrue_at yes c.block_is_settled.ensures))

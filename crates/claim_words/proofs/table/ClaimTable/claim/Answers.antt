@@ -26,10 +26,10 @@ fetch_add-number-requires c =
     let is = ap (λ (me : Sight × List (ℕ × ℕ)). me.0) c.load-shown.ensures.2 in
     let low : c.load-shown.result < slice_index counts word = (let a = c.if-shown-count.false in let b = c.from-count.ensures in omega (arith, a, b, count_is)) in
     let part : 0 < c.load-shown.new.seat.me.0.parts = subst (λ (k : ℕ). 0 < k) (sym (ap (λ (u : Sight). u.parts) is)) c.args.seat.now.has_part in
-    let told_low : c.load-shown.result < slice_index v.counts word = subst (λ (l : List ℕ). c.load-shown.result < slice_index l word) (sym c.requires.of.1) low in
+    let reported_low : c.load-shown.result < slice_index v.counts word = subst (λ (l : List ℕ). c.load-shown.result < slice_index l word) (sym c.requires.of.1) low in
     let test : nat_lt c.load-shown.result (slice_index v.counts word) ≡ true = elim (split_lt c.load-shown.result (slice_index v.counts word)) [
       | inl x ↦ x.1
-      | inr x ↦ absurd (omega (arith, x.0, told_low))
+      | inr x ↦ absurd (omega (arith, x.0, reported_low))
     ] in
     let trying : c.load-shown.new.seat.me.0.trying ≡ suc word = ap (λ (u : Sight). u.trying) is ∙ ap (λ (b : Bool). if b then suc word else 0) test in (
       c.load-shown.ensures.0 ∙ c.requires.of.0,

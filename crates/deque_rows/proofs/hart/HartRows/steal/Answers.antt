@@ -1,19 +1,19 @@
 use Rattle.std.proofs.Common.{refl, ℕ, ◌<◌, List, [], ◌∷◌, length, set, get_or, subst, slice_set, slice_index, arith, ap, sym, inr, ◌∙◌}
 use Rattle.deque_rows.specs.declared.account.Log.{Log}
 use Rattle.deque_rows.specs.Account.{idle, after_steal, HeldAtMost, Rose}
-use Rattle.deque_rows.specs.Rows.{Kin, RowName, kin, pass_log, pass_logs, bares}
+use Rattle.deque_rows.specs.Rows.{Identity, RowName, identity, pass_log, pass_logs, bares}
 use Rattle.deque_rows.proofs.Sights.{end_names, end_logs, end_parts, end_at, end_kept}
 use Rattle.deque_rows.proofs.hart.HartRows.steal.Goals as goal
 
-abbrev with_ends : Kin → List RowName × List ℕ → Kin
+abbrev with_ends : Identity → List RowName × List ℕ → Identity
 with_ends k p = record k { pass_names = p.0; pass_parts = p.1 }
 
-pub returns-in-Some-clause-kin : goal.returns-in-Some-clause-kin
-returns-in-Some-clause-kin g c =
+pub returns-in-Some-clause-identity : goal.returns-in-Some-clause-identity
+returns-in-Some-clause-identity g c =
     let is = c.index_mut.ensures.value in
     let names = end_names c.args.self.now.ends.items c.place-row.result c.steal.new.self c.index_mut.result.now is c.in-Some.ensures.same in
     let parts = end_parts c.args.self.now.ends.items c.place-row.result c.steal.new.self c.index_mut.result.now is (ap (λ (v : Log). v.parts) c.in-Some.ensures.took) in
-    λ i. with_ends (kin c.args.self.now) (names i, parts i)
+    λ i. with_ends (identity c.args.self.now) (names i, parts i)
 
 pub returns-in-Some-clause-gives : goal.returns-in-Some-clause-gives
 returns-in-Some-clause-gives g c =
@@ -34,12 +34,12 @@ note_bare-requires-clause-bare g c =
     let kept = end_kept rows.ends.items c.place-row.result c.steal.new.self c.index_mut.result.now c.index_mut.ensures.value c.in-None.ensures.none.0 in
     inr (subst (λ (logs : List Log). HeldAtMost 1 (get_or logs c.place-row.result idle)) (sym kept) (subst (HeldAtMost 1) at c.in-None.ensures.none.1))
 
-pub returns-in-None-clause-kin : goal.returns-in-None-clause-kin
-returns-in-None-clause-kin g c =
+pub returns-in-None-clause-identity : goal.returns-in-None-clause-identity
+returns-in-None-clause-identity g c =
     let is = c.index_mut.ensures.value in
     let names = end_names c.args.self.now.ends.items c.place-row.result c.steal.new.self c.index_mut.result.now is c.in-None.ensures.same in
     let parts = end_parts c.args.self.now.ends.items c.place-row.result c.steal.new.self c.index_mut.result.now is (ap (λ (v : Log). v.parts) c.in-None.ensures.none.0) in
-    c.note_bare.ensures.kin ∙ (λ i. with_ends (kin c.args.self.now) (names i, parts i))
+    c.note_bare.ensures.identity ∙ (λ i. with_ends (identity c.args.self.now) (names i, parts i))
 
 pub returns-in-None-clause-gives : goal.returns-in-None-clause-gives
 returns-in-None-clause-gives g c =

@@ -1,7 +1,7 @@
 use Rattle.std.proofs.Common.{◌≡◌, ap, ◌∙◌, subst, ℕ, List, Some, slice_get, length, replicate}
 use Rattle.array_jobs.specs.Jobs.{JobParts, IsFit, job_of}
 use Rattle.join_book.specs.declared.place.Place.TheVariants as place
-use Rattle.join_book.proofs.BookLemmas.{kept_open, told_open}
+use Rattle.join_book.proofs.BookLemmas.{kept_open, open_model}
 use Rattle.join_book.proofs.book.Book.new.Goals as goal
 
 pub invariant_of-result : goal.invariant_of-result
@@ -12,5 +12,5 @@ invariant_of-result c =
     (c.in_ok-places.ensures.all_open ∙ ap (λ js. replicate (length js) place.Open) c.deref.ensures.value)
 
 pub returns : goal.returns
-returns c = told_open c.args.jobs.items c.in_ok-places.places.items
+returns c = open_model c.args.jobs.items c.in_ok-places.places.items
     (c.in_ok-places.ensures.all_open ∙ ap (λ js. replicate (length js) place.Open) c.deref.ensures.value)

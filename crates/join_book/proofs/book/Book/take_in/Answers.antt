@@ -1,7 +1,7 @@
 use Rattle.std.proofs.Common.{ap, ◌∙◌, sym, subst, length, List, slice_get, slice_set}
 use Rattle.array_jobs.specs.Jobs.{JobParts, IsFit, job_of}
 use Rattle.join_book.specs.declared.place.Place.TheVariants as variant
-use Rattle.join_book.proofs.BookLemmas.{kept_put, told_book, told_put}
+use Rattle.join_book.proofs.BookLemmas.{kept_put, book_model, put_model}
 use Rattle.join_book.proofs.book.Book.take_in.Goals as goal
 
 pub invariant_of-self : goal.invariant_of-self
@@ -21,6 +21,6 @@ returns c =
     let filled = slice_set c.self.inside.places.items c.from-place.result (variant.Filled c.piece.inside.written) in
     let job = ap (λ p. p.job) c.piece.view_is in
     let place = c.from-place.ensures ∙ ap (λ (j : JobParts). j.place) c.job.view_is in
-    ap (λ (j : JobParts). told_book (slice_set jobs c.from-place.result j) filled) job
-    ∙ told_put jobs c.self.inside.places.items c.args.self.now c.from-place.result c.piece.inside.written c.args.piece c.self.view_is
+    ap (λ (j : JobParts). book_model (slice_set jobs c.from-place.result j) filled) job
+    ∙ put_model jobs c.self.inside.places.items c.args.self.now c.from-place.result c.piece.inside.written c.args.piece c.self.view_is
     (place ∙ ap (λ (j : JobParts). j.place) job)

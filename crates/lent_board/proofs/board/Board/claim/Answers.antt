@@ -3,13 +3,13 @@ use Rattle.atomic_table.specs.Table.{Allows}
 use Rattle.transfer_table.specs.Plan.{Plan}
 use Rattle.board_rule.specs.Views.{claim_view}
 use Rattle.board_rule.specs.Rule.{Stands}
-use Rattle.lent_board.specs.Plays.{Tells, nothing_more}
+use Rattle.lent_board.specs.Plays.{Reports, nothing_more}
 use Rattle.lent_board.proofs.Allowed.{claims}
 use Rattle.lent_board.proofs.board.Board.claim.Goals as goal
 
 pub fetch_or-requires : goal.fetch_or-requires
 fetch_or-requires g c = let b = c.args.self.now in let q = c.args.seat.now in
-    let P : Plan → Type 0 = λ p. Allows (Stands g.L.Laid.layout p) b.table.shared.table_id.slots q.id q.me c.args.site (λ n. bit_or n 1) (Tells (claim_view c.args.site) nothing_more q.me) in (
+    let P : Plan → Type 0 = λ p. Allows (Stands g.L.Laid.layout p) b.table.shared.table_id.slots q.id q.me c.args.site (λ n. bit_or n 1) (Reports (claim_view c.args.site) nothing_more q.me) in (
       c.requires.on.board,
       (let high = c.requires.may.1.1 in omega (arith, b.wide)),
       subst P (sym b.key) (claims g.L.Laid.layout b.plan _ q.id q.me c.requires.on.seat c.args.site c.requires.may),

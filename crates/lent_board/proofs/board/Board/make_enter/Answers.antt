@@ -4,7 +4,7 @@ use Rattle.transfer_table.specs.Plan.{Plan}
 use Rattle.board_rule.specs.Layouts.{entries_of, Adds}
 use Rattle.board_rule.specs.Views.{enter_view}
 use Rattle.board_rule.specs.Rule.{Stands}
-use Rattle.lent_board.specs.Plays.{Tells, IsPlaceOf}
+use Rattle.lent_board.specs.Plays.{Reports, IsPlaceOf}
 use Rattle.lent_board.proofs.Allowed.{enters_at}
 use Rattle.lent_board.proofs.Digits.{digit_of}
 use Rattle.lent_board.proofs.board.Board.make_enter.Goals as goal
@@ -20,7 +20,7 @@ pub fetch_add-requires : goal.fetch_add-requires
 fetch_add-requires g c = let b = c.args.self.now in let q = c.args.seat.now in let x : ℕ = c.args.site in
     let k : ℕ = c.rise-amount.result in
     let adds : Adds g.L.Laid.layout q.me.0.owner q.me.0.hart x k = rw (c.requires.numbers.0, c.requires.numbers.1) c.rise-amount.ensures in
-    let P : Plan → Type 0 = λ p. Allows (Stands g.L.Laid.layout p) b.table.shared.table_id.slots q.id q.me 0 (λ n. (n + k) % 2 ^ 64) (Tells (λ n. enter_view g.L.Laid.layout (entries_of g.L.Laid.layout n)) (IsPlaceOf g.L.Laid.layout q.me.0) q.me) in (
+    let P : Plan → Type 0 = λ p. Allows (Stands g.L.Laid.layout p) b.table.shared.table_id.slots q.id q.me 0 (λ n. (n + k) % 2 ^ 64) (Reports (λ n. enter_view g.L.Laid.layout (entries_of g.L.Laid.layout n)) (IsPlaceOf g.L.Laid.layout q.me.0) q.me) in (
       c.requires.on.board,
       omega (arith, b.wide),
       subst P (sym b.key) (enters_at g.L.Laid.layout b.plan _ q.id q.me c.requires.on.seat x k c.requires.reserved adds),

@@ -4,13 +4,13 @@ use Rattle.transfer_table.specs.Plan.{Plan}
 use Rattle.board_rule.specs.Layouts.{entries_of}
 use Rattle.board_rule.specs.Views.{request_view}
 use Rattle.board_rule.specs.Rule.{Stands}
-use Rattle.lent_board.specs.Plays.{Tells, IsPlaceOf}
+use Rattle.lent_board.specs.Plays.{Reports, IsPlaceOf}
 use Rattle.lent_board.proofs.Allowed.{requests}
 use Rattle.lent_board.proofs.board.Board.make_request_as.Goals as goal
 
 pub fetch_add-requires : goal.fetch_add-requires
 fetch_add-requires g c = let b = c.args.self.now in let q = c.args.seat.now in
-    let P : Plan × ℕ → Type 0 = λ z. Allows (Stands g.L.Laid.layout z.0) b.table.shared.table_id.slots q.id q.me 0 (λ n. (n + c.stay-amount.result) % 2 ^ 64) (Tells (λ n. request_view z.1 (entries_of g.L.Laid.layout n)) (IsPlaceOf g.L.Laid.layout q.me.0) q.me) in (
+    let P : Plan × ℕ → Type 0 = λ z. Allows (Stands g.L.Laid.layout z.0) b.table.shared.table_id.slots q.id q.me 0 (λ n. (n + c.stay-amount.result) % 2 ^ 64) (Reports (λ n. request_view z.1 (entries_of g.L.Laid.layout n)) (IsPlaceOf g.L.Laid.layout q.me.0) q.me) in (
       c.requires.on.board,
       omega (arith, b.wide),
       subst P (λ i. (sym b.key i, c.requires.asked i)) (requests g.L.Laid.layout b.plan _ q.id q.me c.requires.on.seat c.args.count c.stay-amount.result c.requires.may (c.stay-amount.ensures q.me.0.owner q.me.0.hart)),

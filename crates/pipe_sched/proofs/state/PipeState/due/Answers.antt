@@ -5,7 +5,7 @@ use Rattle.step_eval.proofs.ShapeLemmas.{few_pieces}
 use Rattle.pipe_sched.specs.Slots.{phases_in, members_in}
 use Rattle.pipe_sched.specs.declared.slot.Slot.{Slot}
 use Rattle.pipe_sched.specs.Inside.{mark_of, AreNext}
-use Rattle.pipe_sched.proofs.Told.{due_is_told, none_is_due}
+use Rattle.pipe_sched.proofs.Told.{due_is_in_model, none_is_due}
 use Rattle.pipe_sched.proofs.state.PipeState.due.Goals as goal
 
 pub overflow_cast-result : goal.overflow_cast-result
@@ -23,7 +23,7 @@ overflow_cast-result c =
 pub returns-in-Some-clause-some : goal.returns-in-Some-clause-some
 returns-in-Some-clause-some c =
     let some : 0 < c.from-phases.result = (let least = c.phases.ensures.some in let from = c.from-phases.ensures in omega (arith, least, from)) in
-    due_is_told c.self.inside.nested c.self.inside.slots.items c.deref.result.now c.args.self.now c.from-phases.result c.in-Some.place c.self.view_is c.self.invariant.kept
+    due_is_in_model c.self.inside.nested c.self.inside.slots.items c.deref.result.now c.args.self.now c.from-phases.result c.in-Some.place c.self.view_is c.self.invariant.kept
     c.deref.ensures.value (c.from-phases.ensures ∙ c.phases.ensures.same) some c.in-Some.ensures.there.0 c.in-Some.ensures.there.1 c.in-Some.ensures.first
 
 pub returns-in-None-clause-none : goal.returns-in-None-clause-none

@@ -8,7 +8,7 @@ use Rattle.phase_order.specs.Pipes.{written_before}
 use Rattle.pipe_sched.specs.Pipes.{piped_writes}
 use Rattle.pipe_sched.proofs.Told.{room_for}
 use Rattle.step_eval.proofs.PhaseLemmas.{job_parts}
-use Rattle.pipe_sched.proofs.Writes.{job_is_told}
+use Rattle.pipe_sched.proofs.Writes.{job_is_in_model}
 use Rattle.pipe_sched.proofs.state.PipeState.due_job.Goals as goal
 
 pub job_at-requires-clause-place : goal.job_at-requires-clause-place
@@ -28,7 +28,7 @@ job_at-requires-clause-cells c =
 pub returns-clause-own : goal.returns-clause-own
 returns-clause-own c =
     IfOk-weaker c.job_at.result _ _
-    (λ job e. job_is_told c.self.inside.nested c.self.inside.slots.items c.args.self.now c.args.member c.args.phase c.in_ok-store.store job c.self.view_is c.in_ok-store.ensures e)
+    (λ job e. job_is_in_model c.self.inside.nested c.self.inside.slots.items c.args.self.now c.args.member c.args.phase c.in_ok-store.store job c.self.view_is c.in_ok-store.ensures e)
     c.job_at.ensures
 
 pub returns-clause-place : goal.returns-clause-place

@@ -6,7 +6,7 @@ use Rattle.pipe_sched.specs.declared.slot.Slot.TheVariants as slot
 use Rattle.pipe_sched.specs.Slots.{Out, Filled, phases_in}
 use Rattle.pipe_sched.specs.Pipes.{IsJobAt}
 use Rattle.step_eval.specs.Nests.{nested_of}
-use Rattle.pipe_sched.proofs.Told.{place_is, place_within, mark_is_told}
+use Rattle.pipe_sched.proofs.Told.{place_is, place_within, mark_is_in_model}
 use Rattle.pipe_sched.proofs.Next.{filling_holds}
 use Rattle.pipe_sched.proofs.state.PipeState.keep.Goals as goal
 
@@ -39,5 +39,5 @@ returns c =
     let j = c.from.ensures ∙ ap (λ (j : JobParts). j.place) c.job.view_is ∙ ap (λ (j : JobParts). j.place) job in
     let k = c.from-2.ensures ∙ ap (λ (j : JobParts). j.phase) c.job.view_is ∙ ap (λ (j : JobParts). j.phase) job in
     let is = place_is c.from.result c.from-phases.result c.from-2.result c.args.piece.job.place (phases_in c.self.inside.nested) c.args.piece.job.phase j n k in
-    mark_is_told c.self.inside.nested c.self.inside.slots.items _ c.args.self.now c.args.piece.job.place c.args.piece.job.phase (slot.Filled c.piece.inside.job c.piece.inside.written) Filled
+    mark_is_in_model c.self.inside.nested c.self.inside.slots.items _ c.args.self.now c.args.piece.job.place c.args.piece.job.phase (slot.Filled c.piece.inside.job c.piece.inside.written) Filled
     c.self.view_is (ap (λ p. slice_set c.self.inside.slots.items p (slot.Filled c.piece.inside.job c.piece.inside.written)) is) refl

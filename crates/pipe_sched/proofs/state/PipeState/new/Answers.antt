@@ -4,8 +4,8 @@ use Rattle.pipe_sched.specs.declared.slot.Slot.TheVariants as slot
 use Rattle.step_eval.specs.Nests.{NestedParts, nested_of, IsFitNest}
 use Rattle.pipe_sched.specs.Slots.{phases_in, members_in}
 use Rattle.pipe_sched.specs.Inside.{mark_of}
-use Rattle.pipe_sched.proofs.Kept.{kept_new, told_new}
-use Rattle.pipe_sched.proofs.Told.{new_is_told}
+use Rattle.pipe_sched.proofs.Kept.{kept_new, new_model}
+use Rattle.pipe_sched.proofs.Told.{new_is_in_model}
 use Rattle.pipe_sched.proofs.Next.{next_new}
 use Rattle.pipe_sched.proofs.state.PipeState.new.Goals as goal
 
@@ -21,11 +21,11 @@ invariant_of-result c =
     record {
       kept = kept_new c.args.nested c.in_ok-slots.slots.items c.requires (subst (λ (n : NestedParts). IsFitNest (nested_of n)) c.nested.view_is c.nested.invariant) all;
       members = ap length none ∙ length-replicate m 0;
-      begun = rw none (next_new n (m * n) m (map mark_of c.in_ok-slots.slots.items) (told_new c.in_ok-slots.slots.items (m * n) all));
+      begun = rw none (next_new n (m * n) m (map mark_of c.in_ok-slots.slots.items) (new_model c.in_ok-slots.slots.items (m * n) all));
     }
 
 pub returns : goal.returns
 returns c =
     let count : c.from.result * c.from-2.result ≡ members_in c.args.nested * phases_in c.args.nested
     = ap (λ m. m * c.from-2.result) (c.from.ensures ∙ c.members.ensures.same) ∙ ap (λ p. members_in c.args.nested * p) (c.from-2.ensures ∙ c.phases.ensures.same) in
-    new_is_told c.args.nested c.in_ok-slots.slots.items (c.in_ok-slots.ensures ∙ ap (λ n. replicate n slot.Waiting) count)
+    new_is_in_model c.args.nested c.in_ok-slots.slots.items (c.in_ok-slots.ensures ∙ ap (λ n. replicate n slot.Waiting) count)

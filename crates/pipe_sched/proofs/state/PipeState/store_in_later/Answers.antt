@@ -2,7 +2,7 @@ use Rattle.std.proofs.Common.{◌≡◌, ◌*◌, length, ap, ◌∙◌, arith}
 use Rattle.std.proofs.lemmas.Result.{IfOk-weaker}
 use Rattle.pipe_sched.specs.Slots.{phases_in}
 use Rattle.pipe_sched.proofs.Told.{room_for}
-use Rattle.pipe_sched.proofs.Stores.{later_is_told, earlier_filled}
+use Rattle.pipe_sched.proofs.Stores.{later_is_in_model, earlier_filled}
 use Rattle.pipe_sched.proofs.state.PipeState.store_in_later.Goals as goal
 
 pub store_after-requires : goal.store_after-requires
@@ -28,7 +28,7 @@ merge_phase-requires-clause-phase c =
 pub returns : goal.returns
 returns c =
     IfOk-weaker c.to_store.result _ _
-    (λ store e. later_is_told c.self.inside.nested c.self.inside.slots.items c.deref.result.now c.args.self.now c.args.member c.args.phase
+    (λ store e. later_is_in_model c.self.inside.nested c.self.inside.slots.items c.deref.result.now c.args.self.now c.args.member c.args.phase
     c.from-phases.result c.from-below.result c.from-own.result c.in_ok-store.store c.merge_phase.new.store store
     c.self.view_is c.self.invariant.kept c.requires.ready c.requires.later c.deref.ensures.value (c.from-phases.ensures ∙ c.phases.ensures.same)
     c.from-below.ensures c.from-own.ensures c.in_ok-store.ensures c.merge_phase.ensures e)

@@ -6,7 +6,7 @@ use Rattle.step_eval.proofs.ComputeLemmas.{small_store}
 use Rattle.pipe_sched.specs.Slots.{phases_in}
 use Rattle.phase_order.specs.Pipes.{concat}
 use Rattle.pipe_sched.specs.Inside.{columns}
-use Rattle.pipe_sched.proofs.Whole.{merged_size, all_told}
+use Rattle.pipe_sched.proofs.Whole.{merged_size, all_in_model}
 use Rattle.pipe_sched.proofs.state.PipeState.take_all.Goals as goal
 
 pub merge_phases-requires-clause-there : goal.merge_phases-requires-clause-there
@@ -25,7 +25,7 @@ written-requires c =
 
 pub returns-clause-written : goal.returns-clause-written
 returns-clause-written c =
-    let told = all_told c.self.inside.nested c.self.inside.slots.items c.args.self c.deref.result.now c.from-members.result c.from-phases.result
+    let told = all_in_model c.self.inside.nested c.self.inside.slots.items c.args.self c.deref.result.now c.from-members.result c.from-phases.result
     c.in_ok-store.store c.merge_phases.new.store c.self.view_is c.self.invariant.kept c.requires
     (λ failed. false≢true (sym c.if-has_failed.false ∙ c.has_failed.ensures.1 failed))
     c.deref.ensures.value (c.from-members.ensures ∙ c.members.ensures.same) (c.from-phases.ensures ∙ c.phases.ensures.same) c.in_ok-store.ensures c.merge_phases.ensures in

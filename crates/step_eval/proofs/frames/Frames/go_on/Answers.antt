@@ -3,8 +3,8 @@ use Rattle.step_eval.specs.Inside.Frames.{on_top, works_in, vars_in, loops_in, I
 use Rattle.step_eval.proofs.FrameLemmas.{more_on_top, always_err}
 use Rattle.step_eval.proofs.frames.Frames.go_on.Goals as goal
 
-pub returns-in_err-told-in-Some-clause-more : goal.returns-in_err-told-in-Some-clause-more
-returns-in_err-told-in-Some-clause-more c =
+pub returns-in_err-reported-in-Some-clause-more : goal.returns-in_err-reported-in-Some-clause-more
+returns-in_err-reported-in-Some-clause-more c =
     let around = c.args.around.now in
     let before = c.args.self.now in
     let below = reverse before.below.items in
