@@ -2,7 +2,7 @@
 //! job with its writes.
 //!
 //! `step_eval` cuts a construct into jobs, harts run them, and schedulers collect the pieces. Begin with `Job` in `job.rt` and
-//! `piece_of` in `piece.rt`; the tests of `job_tests` make jobs and compare their pieces with a run of the whole.
+//! `piece_of` in `piece.rt`; the tests of `piece_tests` make jobs and compare their pieces with a run of the whole.
 #![tactic(auto)]
 
 mod body;

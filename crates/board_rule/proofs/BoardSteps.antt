@@ -25,26 +25,26 @@ use Rattle.transfer_table.proofs.Makers.{made_by-own, made_by-other}
 use Rattle.hart_port.specs.PortView.{is_in}
 use Rattle.board_rule.specs.declared.view.View.{View}
 use Rattle.board_rule.specs.declared.view.Marks.{Marks}
-use Rattle.board_words.specs.declared.entries.Drawn.{Drawn}
+use Rattle.board_rule.specs.declared.entries.Drawn.{Drawn}
 use Rattle.board_rule.specs.declared.view.Doing.{Doing}
 use Rattle.board_rule.specs.declared.view.Doing.TheVariants.{Idle, Claiming, Crediting, Reserved, Landing, Leaving, Sealing}
 use Rattle.board_rule.specs.declared.layout.Layout.{Layout}
 use Rattle.board_rule.specs.Layouts.{first_word, entries_of, Adds, insiders}
-use Rattle.board_words.specs.Words.{journal_index, journal_word}
+use Rattle.board_rule.specs.Encodings.{journal_index, journal_word}
 use Rattle.transfer_table.specs.Counts.{one_if}
-use Rattle.board_words.specs.Counts.{total, draws_in, ended_as}
+use Rattle.board_rule.specs.Sums.{total, draws_in, ended_as}
 use Rattle.board_rule.specs.Counts.{draws, numbered, Load, part, load, guests}
 use Rattle.board_rule.specs.Views.{made_entry}
 use Rattle.board_rule.specs.Rule.{Stands, Knows, KnowsSites, IsSeat, IsSiteWord, DoesRight, SawChildren}
-use Rattle.board_words.specs.Shown.{started, shown}
-use Rattle.board_words.specs.Places.{is_last}
-use Rattle.board_words.proofs.Shown.{shown-after, shown-other, shown-lasts, uncovered}
+use Rattle.board_rule.specs.Shown.{started, shown}
+use Rattle.board_rule.specs.Places.{is_last}
+use Rattle.board_rule.proofs.Shown.{shown-after, shown-other, shown-lasts, uncovered}
 use Rattle.board_rule.specs.Laws.{St, after_step, Appends}
-use Rattle.board_words.proofs.Totals.{total-set, total-same, total-one, total-two}
-use Rattle.board_words.proofs.Lists.{get-more, get-snoc, get-last, get-inside, length-snoc}
-use Rattle.board_words.proofs.Places.{at-more, at-own}
+use Rattle.board_rule.proofs.Totals.{total-set, total-same, total-one, total-two}
+use Rattle.board_rule.proofs.Lists.{get-more, get-snoc, get-last, get-inside, length-snoc}
+use Rattle.board_rule.proofs.Places.{at-more, at-own}
 use Rattle.board_rule.proofs.Loads.{load-same, part-here}
-use Rattle.board_words.proofs.Places.{place_at}
+use Rattle.board_rule.proofs.Places.{place_at}
 use Rattle.board_rule.proofs.SiteSteps.{guests-load}
 use Rattle.board_rule.proofs.Layouts.{length_of, word_next, insiders_elsewhere}
 

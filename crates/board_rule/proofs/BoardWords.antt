@@ -13,9 +13,9 @@ use Rattle.transfer_table.proofs.Effects.{owner_after}
 use Rattle.hart_port.specs.Words.{owner_digits}
 use Rattle.hart_port.specs.Words.{board_word}
 use Rattle.board_rule.specs.Words.{length_unit}
-use Rattle.board_words.proofs.Lists.{digits-set}
+use Rattle.board_rule.proofs.Lists.{digits-set}
 use Rattle.board_rule.proofs.Fields.{digits_small}
-use Rattle.board_words.proofs.Rooms.{has_room}
+use Rattle.board_rule.proofs.Rooms.{has_room}
 
 -- One digit changes.
 digits_after : (p : Plan) → IsPlan p → (es : List Entry) (t : TableState) (e : Entry) → Reaches p es t → IsAllowed p t e

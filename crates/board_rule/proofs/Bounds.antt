@@ -13,23 +13,23 @@ use Rattle.board_rule.specs.declared.view.View.{View}
 use Rattle.board_rule.specs.declared.view.Doing.{Doing}
 use Rattle.board_rule.specs.declared.view.Doing.TheVariants.{Idle, Claiming, Crediting, Reserved, Landing, Leaving, Sealing}
 use Rattle.transfer_table.specs.Counts.{one_if}
-use Rattle.board_words.specs.Counts.{total}
+use Rattle.board_rule.specs.Sums.{total}
 use Rattle.board_rule.specs.Counts.{numbered, guests, weight, busy_at, Load, part, load}
-use Rattle.board_words.specs.Shown.{shown}
+use Rattle.board_rule.specs.Shown.{shown}
 use Rattle.board_rule.specs.Rule.{Stands, IsSeat, DoesRight}
 use Rattle.board_rule.specs.Laws.{St}
 use Rattle.board_rule.proofs.Loads.{part-here, part-elsewhere}
 use Rattle.board_rule.proofs.BoardSteps.{in_plan}
 use Rattle.board_rule.proofs.Looks.{few_harts, few_wishes}
 use Rattle.board_rule.proofs.SiteWords.{fields}
-use Rattle.guest_counts.specs.Guests.{guest_at, guests_below}
-use Rattle.guest_counts.proofs.Ways.{parent_outside, found_within}
-use Rattle.guest_counts.proofs.Counts.{small}
-use Rattle.guest_counts.proofs.Changes.{outsider, at_home}
+use Rattle.transfer_table.specs.Guests.{guest_at, guests_below}
+use Rattle.transfer_table.proofs.Ways.{parent_outside, found_within}
+use Rattle.transfer_table.proofs.GuestCounts.{small}
+use Rattle.transfer_table.proofs.Changes.{outsider, at_home}
 use Rattle.board_rule.proofs.Lasts.{last_owner}
 use Rattle.board_rule.specs.StepLaws.{GuestsAreShown, GuestsAreFew}
-use Rattle.board_words.proofs.Totals.{total-none}
-use Rattle.board_words.proofs.Shown.{row-live, shown-wishes}
+use Rattle.board_rule.proofs.Totals.{total-none}
+use Rattle.board_rule.proofs.Shown.{row-live, shown-wishes}
 use Rattle.transfer_table.proofs.Homes.{legal_home}
 use Rattle.transfer_table.proofs.Balance.{legal_wishes}
 use Rattle.transfer_table.specs.Table.{owner, row, is_home}

@@ -12,13 +12,13 @@ use Rattle.board_rule.specs.declared.view.Doing.{Doing}
 use Rattle.board_rule.specs.declared.view.Doing.TheVariants.{Idle, Claiming, Reserved}
 use Rattle.board_rule.specs.Counts.{Load, no_load, weight, busy_at, part, load, guests}
 use Rattle.board_rule.specs.Views.{claim_view, reserve_view, look_at}
-use Rattle.board_words.specs.Shown.{shown}
+use Rattle.board_rule.specs.Shown.{shown}
 use Rattle.board_rule.specs.Rule.{Stands, IsSeat, IsSiteWord}
-use Rattle.board_words.proofs.Shown.{row-new, row-live, shown-homeless, shown-askless}
+use Rattle.board_rule.proofs.Shown.{row-new, row-live, shown-homeless, shown-askless}
 use Rattle.board_rule.specs.Steps.{MayClaim, MayReserve}
 use Rattle.board_rule.specs.Laws.{St, after_step, Keeps}
 use Rattle.board_rule.proofs.Loads.{part-elsewhere, part-here, part-idle, load-shift}
-use Rattle.board_words.proofs.Bits.{claimed_again, is_open}
+use Rattle.board_rule.proofs.Bits.{claimed_again, is_open}
 use Rattle.board_rule.specs.declared.layout.Layout.{Layout}
 use Rattle.board_rule.specs.Layouts.{insiders}
 use Rattle.hart_port.specs.Words.{is_wanted, want_of}

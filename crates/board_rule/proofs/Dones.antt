@@ -11,14 +11,14 @@ use Rattle.board_rule.specs.declared.view.Doing.{Doing}
 use Rattle.board_rule.specs.declared.view.Doing.TheVariants.{Idle, Crediting, Landing, Leaving, Sealing}
 use Rattle.board_rule.specs.Counts.{Load, no_load, weight, busy_at, part, load, guests}
 use Rattle.board_rule.specs.Views.{done_view, close_view}
-use Rattle.board_words.specs.Shown.{shown}
+use Rattle.board_rule.specs.Shown.{shown}
 use Rattle.board_rule.specs.Rule.{Stands, KnowsSites, IsSeat, IsSiteWord, DoesRight}
 use Rattle.transfer_table.specs.declared.entry.Row.{Row}
-use Rattle.board_words.proofs.Shown.{shown-live}
+use Rattle.board_rule.proofs.Shown.{shown-live}
 use Rattle.board_rule.specs.Steps.{MayClose, MayFollow}
 use Rattle.board_rule.specs.Laws.{St, after_step, Keeps}
 use Rattle.board_rule.proofs.Loads.{part-elsewhere, part-here, part-idle, load-shift, load-same, Shifts}
-use Rattle.board_words.proofs.Sets.{with_site-in, with_site-keeps}
+use Rattle.board_rule.proofs.Sets.{with_site-in, with_site-keeps}
 use Rattle.board_rule.proofs.SiteWords.{credited_word, landed_word, left_word, sealed_word, closing_word}
 use Rattle.board_rule.specs.declared.layout.Layout.{Layout}
 use Rattle.board_rule.specs.Layouts.{insiders}

@@ -11,21 +11,21 @@ use Rattle.transfer_table.specs.declared.entry.Entry.{Entry}
 use Rattle.transfer_table.proofs.Bounds.{legal_length}
 use Rattle.transfer_table.proofs.Balance.{legal_entries}
 use Rattle.board_rule.specs.declared.view.View.{View}
-use Rattle.board_words.specs.declared.entries.Drawn.{Drawn}
-use Rattle.board_words.specs.declared.entries.Ended.{Ended}
+use Rattle.board_rule.specs.declared.entries.Drawn.{Drawn}
+use Rattle.board_rule.specs.declared.entries.Ended.{Ended}
 use Rattle.board_rule.specs.declared.layout.Layout.{Layout}
 use Rattle.board_rule.specs.Layouts.{entries_of}
-use Rattle.board_words.specs.Words.{journal_word, spelled}
-use Rattle.board_words.specs.Counts.{total, draws_in, ended_as}
+use Rattle.board_rule.specs.Encodings.{journal_word, spelled}
+use Rattle.board_rule.specs.Sums.{total, draws_in, ended_as}
 use Rattle.board_rule.specs.Counts.{draws}
 use Rattle.board_rule.specs.Rule.{Stands, IsSeat}
 use Rattle.board_rule.specs.Ends.{Spells, AllEnded, IsJournal}
 use Rattle.board_rule.specs.Laws.{St}
-use Rattle.board_words.proofs.Lists.{index_of, get_there}
-use Rattle.board_words.proofs.Totals.{total-none}
+use Rattle.board_rule.proofs.Lists.{index_of, get_there}
+use Rattle.board_rule.proofs.Totals.{total-none}
 use Rattle.board_rule.proofs.BoardSteps.{in_plan, one_seat, other_hart}
 use Rattle.board_rule.proofs.Layouts.{length_of}
-use Rattle.board_words.proofs.Spelled.{entry_at}
+use Rattle.board_rule.proofs.Spelled.{entry_at}
 
 pub settled : (lay : Layout) (p : Plan) (s : St) (k : Stands lay p s) (id : ℕ) (v : View) → get_elem? s.views id ≡ some v → v.hart ≡ 0 → IsSeat v → v.drawn ≡ None → AllEnded p v
     → (i : ℕ) (e : Entry) → slice_get k.journal i ≡ Some e → journal_word p s.words i ≡ spelled e

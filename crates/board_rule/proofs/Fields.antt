@@ -9,7 +9,7 @@ use Rattle.transfer_table.proofs.Positions.{legal_position}
 use Rattle.transfer_table.proofs.Bounds.{legal_owner}
 use Rattle.hart_port.specs.Words.{owner_digits}
 use Rattle.board_rule.specs.Words.{length_unit, entries_in}
-use Rattle.board_words.proofs.Lists.{digits-small}
+use Rattle.board_rule.proofs.Lists.{digits-small}
 
 abbrev pub over : List ℕ → ℕ → ℕ
 over [] r = r

@@ -8,7 +8,7 @@ use Rattle.transfer_table.proofs.Stages.{gone_lasts}
 use Rattle.transfer_table.proofs.Balance.{legal_balance}
 use Rattle.board_rule.specs.declared.layout.Layout.{Layout}
 use Rattle.board_rule.specs.StepLaws.{GoneStaysGone, WantsBalance}
-use Rattle.board_words.proofs.Shown.{shown-wishes}
+use Rattle.board_rule.proofs.Shown.{shown-wishes}
 
 pub gone_stays_gone : (lay : Layout) → GoneStaysGone lay
 gone_stays_gone lay p s s' k e step x site gone =

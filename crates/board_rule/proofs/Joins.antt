@@ -12,23 +12,23 @@ use Rattle.hart_port.specs.Ledger.{no_site}
 use Rattle.board_rule.specs.declared.layout.Layout.{Layout}
 use Rattle.board_rule.specs.declared.view.View.{View}
 use Rattle.board_rule.specs.declared.view.Marks.{Marks}
-use Rattle.board_words.specs.declared.entries.Drawn.{Drawn}
-use Rattle.board_words.specs.declared.entries.Ended.{Ended}
+use Rattle.board_rule.specs.declared.entries.Drawn.{Drawn}
+use Rattle.board_rule.specs.declared.entries.Ended.{Ended}
 use Rattle.board_rule.specs.declared.view.Doing.{Doing}
 use Rattle.board_rule.specs.declared.view.Doing.TheVariants.{Idle}
 use Rattle.transfer_table.specs.Counts.{one_if}
-use Rattle.board_words.specs.Counts.{total, draws_in, ended_as}
+use Rattle.board_rule.specs.Sums.{total, draws_in, ended_as}
 use Rattle.board_rule.specs.Counts.{draws, numbered, no_load, Load, part, load, guests}
-use Rattle.board_words.specs.Sets.{union}
+use Rattle.board_rule.specs.Sets.{union}
 use Rattle.board_rule.specs.Views.{joined_view, spent_view}
-use Rattle.board_words.specs.Places.{AreAt}
+use Rattle.board_rule.specs.Places.{AreAt}
 use Rattle.board_rule.specs.Rule.{Stands, Knows, KnowsSites, IsSeat, DoesRight}
 use Rattle.board_rule.specs.Steps.{IsReady}
 use Rattle.board_rule.specs.Laws.{St, Keeps}
-use Rattle.board_words.proofs.Totals.{total-set, total-same, total-snoc}
+use Rattle.board_rule.proofs.Totals.{total-set, total-same, total-snoc}
 use Rattle.board_rule.proofs.Loads.{part-idle}
-use Rattle.board_words.proofs.Sets.{in-no_site, union-in, length-union}
-use Rattle.board_words.proofs.Places.{place_at}
+use Rattle.board_rule.proofs.Sets.{in-no_site, union-in, length-union}
+use Rattle.board_rule.proofs.Places.{place_at}
 use Rattle.board_rule.proofs.SiteSteps.{sites_other, guests-load}
 use Rattle.board_rule.proofs.Looks.{few_harts}
 use Rattle.board_rule.proofs.BoardSteps.{other_hart}

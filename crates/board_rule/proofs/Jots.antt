@@ -11,20 +11,20 @@ use Rattle.transfer_table.specs.declared.entry.Entry.{Entry}
 use Rattle.transfer_table.proofs.Bounds.{legal_length}
 use Rattle.board_rule.specs.declared.layout.Layout.{Layout}
 use Rattle.board_rule.specs.declared.view.View.{View}
-use Rattle.board_words.specs.declared.entries.Drawn.{Drawn}
+use Rattle.board_rule.specs.declared.entries.Drawn.{Drawn}
 use Rattle.board_rule.specs.declared.view.Doing.{Doing}
 use Rattle.board_rule.specs.declared.view.Doing.TheVariants.{Idle, Claiming, Crediting, Reserved, Landing, Leaving, Sealing}
-use Rattle.board_words.specs.Words.{journal_index, journal_word, spelled}
+use Rattle.board_rule.specs.Encodings.{journal_index, journal_word, spelled}
 use Rattle.transfer_table.specs.Counts.{one_if}
-use Rattle.board_words.specs.Counts.{total, draws_in}
+use Rattle.board_rule.specs.Sums.{total, draws_in}
 use Rattle.board_rule.specs.Counts.{draws, numbered, load, guests}
 use Rattle.board_rule.specs.Views.{jot_view}
 use Rattle.board_rule.specs.Rule.{Stands, Knows, IsSeat, DoesRight}
 use Rattle.board_rule.specs.Laws.{St, after_step, Keeps}
-use Rattle.board_words.proofs.Totals.{total-set, total-same}
-use Rattle.board_words.proofs.Lists.{get-inside}
+use Rattle.board_rule.proofs.Totals.{total-set, total-same}
+use Rattle.board_rule.proofs.Lists.{get-inside}
 use Rattle.board_rule.proofs.Loads.{load-same}
-use Rattle.board_words.proofs.Places.{place_at}
+use Rattle.board_rule.proofs.Places.{place_at}
 use Rattle.board_rule.proofs.SiteSteps.{guests-load, sites_other, knows_other}
 
 does_jotted : (lay : Layout) (p : Plan) (es : List Entry) (t : TableState) (v : View) (d : Doing) → DoesRight lay p es t v d → DoesRight lay p es t (jot_view v) d

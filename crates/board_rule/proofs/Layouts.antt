@@ -9,10 +9,10 @@ use Rattle.transfer_table.specs.declared.entry.Stage.TheVariants.{Live}
 use Rattle.transfer_table.specs.declared.entry.Entry.{Entry}
 use Rattle.transfer_table.specs.declared.entry.Entry.TheVariants.{Enter, Yield}
 use Rattle.transfer_table.proofs.Effects.{owner_after}
-use Rattle.guest_counts.specs.Guests.{guests_in, comes_in, goes_out}
-use Rattle.guest_counts.proofs.Changes.{guests_change}
-use Rattle.board_words.specs.Places.{is_last}
-use Rattle.board_words.proofs.Rooms.{has_room}
+use Rattle.transfer_table.specs.Guests.{guests_in, comes_in, goes_out}
+use Rattle.transfer_table.proofs.Changes.{guests_change}
+use Rattle.board_rule.specs.Places.{is_last}
+use Rattle.board_rule.proofs.Rooms.{has_room}
 use Rattle.board_rule.specs.declared.layout.Layout.{Layout}
 use Rattle.board_rule.specs.declared.layout.Layout.TheVariants.{Owners, Guests}
 use Rattle.board_rule.specs.declared.view.View.{View}

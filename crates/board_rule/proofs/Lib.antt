@@ -18,3 +18,12 @@ pub mod Reports
 pub mod Ends
 pub mod Lasts
 pub mod Bounds
+pub mod Lists
+pub mod Totals
+pub mod Places
+pub mod Rooms
+pub mod Sets
+pub mod Bits
+pub mod Spelled
+pub mod Shown
+pub mod Asked

@@ -6,7 +6,7 @@ use Rattle.board_rule.specs.declared.view.View.{View}
 use Rattle.board_rule.specs.declared.view.Doing.{Doing}
 use Rattle.board_rule.specs.declared.view.Doing.TheVariants.{Idle}
 use Rattle.board_rule.specs.Counts.{Load, no_load, weight, busy_at, part, load}
-use Rattle.board_words.proofs.Totals.{total-set, total-same}
+use Rattle.board_rule.proofs.Totals.{total-set, total-same}
 
 pub part-elsewhere : (d : Doing) (x : ℕ) → busy_at d ≢ x → part d x ≡ no_load
 part-elsewhere d x n = rw (ne_eqb (busy_at d) x n) refl

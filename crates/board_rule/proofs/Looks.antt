@@ -26,19 +26,19 @@ use Rattle.board_rule.specs.Words.{others_at}
 use Rattle.board_rule.specs.Counts.{draws, numbered, load, guests}
 use Rattle.board_rule.specs.Views.{glance_view, see_gone_view, see_drained_view, see_empty_view, gone_marks, drained_marks, marks_without}
 use Rattle.board_rule.specs.Rule.{Stands, Knows, KnowsSites, IsSeat, DoesRight}
-use Rattle.board_words.specs.Shown.{shown}
+use Rattle.board_rule.specs.Shown.{shown}
 use Rattle.board_rule.specs.Steps.{IsReady, MaySeeDrained, MaySeeEmpty}
 use Rattle.board_rule.specs.Laws.{St, after_step, Keeps}
-use Rattle.board_words.proofs.Shown.{shown-wishes, row-gone}
-use Rattle.board_words.proofs.Totals.{total-same}
+use Rattle.board_rule.proofs.Shown.{shown-wishes, row-gone}
+use Rattle.board_rule.proofs.Totals.{total-same}
 use Rattle.board_rule.proofs.Loads.{load-same}
-use Rattle.board_words.proofs.Sets.{with_site-same, with_site-other, with_site-in, with_site-keeps, without-in}
+use Rattle.board_rule.proofs.Sets.{with_site-same, with_site-other, with_site-in, with_site-keeps, without-in}
 use Rattle.board_rule.proofs.SiteWords.{fields, closed_gone}
-use Rattle.board_words.proofs.Places.{place_at}
+use Rattle.board_rule.proofs.Places.{place_at}
 use Rattle.board_rule.proofs.SiteSteps.{guests-load, sites_other, knows_other}
-use Rattle.board_words.proofs.Asked.{is_home-some}
-use Rattle.board_words.proofs.Bits.{is_live-stage}
-use Rattle.guest_counts.proofs.Changes.{guests_change}
+use Rattle.board_rule.proofs.Asked.{is_home-some}
+use Rattle.board_rule.proofs.Bits.{is_live-stage}
+use Rattle.transfer_table.proofs.Changes.{guests_change}
 use Rattle.board_rule.proofs.Fields.{owners_small, field_is}
 
 -- A plan has at most 16 harts.

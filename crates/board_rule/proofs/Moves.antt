@@ -22,7 +22,7 @@ use Rattle.board_rule.specs.declared.view.Doing.{Doing}
 use Rattle.board_rule.specs.declared.view.Doing.TheVariants.{Reserved, Sealing}
 use Rattle.board_rule.specs.Counts.{Load, no_load, weight, busy_at, part, load, guests}
 use Rattle.board_rule.specs.Views.{enter_view, yield_view, unregister_view, left_marks}
-use Rattle.board_words.specs.Shown.{started}
+use Rattle.board_rule.specs.Shown.{started}
 use Rattle.board_rule.specs.Rule.{Stands, KnowsSites, IsSeat, DoesRight, SawChildren}
 use Rattle.board_rule.specs.Steps.{MayYield, MayUnregister}
 use Rattle.board_rule.specs.Laws.{St, Appends}
@@ -30,16 +30,16 @@ use Rattle.board_rule.specs.StepLaws.{after_tick}
 use Rattle.board_rule.specs.declared.layout.Layout.{Layout}
 use Rattle.board_rule.specs.Layouts.{entries_of, Adds, insiders, after_enter, after_yield}
 use Rattle.board_rule.proofs.Layouts.{insiders_stay, comes_as, enter-here, enter-elsewhere, enter_right, goes_as, yield-here, yield-elsewhere, yield_right}
-use Rattle.board_words.proofs.Totals.{total-one}
+use Rattle.board_rule.proofs.Totals.{total-one}
 use Rattle.board_rule.proofs.Loads.{part-elsewhere, part-here, load-shift}
-use Rattle.board_words.proofs.Sets.{without-same, without-other, without-in}
+use Rattle.board_rule.proofs.Sets.{without-same, without-other, without-in}
 use Rattle.board_rule.proofs.SiteWords.{entered_word, yielded_word, unregistered_word}
 use Rattle.board_rule.proofs.BoardSteps.{board_step, in_plan, sites_moved}
 use Rattle.board_rule.proofs.Claims.{turns_to, idle_part}
 use Rattle.board_rule.proofs.Looks.{home_live}
-use Rattle.board_words.proofs.Asked.{is_home-some}
+use Rattle.board_rule.proofs.Asked.{is_home-some}
 use Rattle.board_rule.proofs.Registers.{lives_with-kept, word_row}
-use Rattle.board_words.proofs.Shown.{shown-live, shown-wishes, shown-after}
+use Rattle.board_rule.proofs.Shown.{shown-live, shown-wishes, shown-after}
 
 -- ---- enter
 

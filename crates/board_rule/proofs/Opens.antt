@@ -16,17 +16,17 @@ use Rattle.hart_port.specs.Ledger.{no_site}
 use Rattle.board_rule.specs.declared.view.View.{View}
 use Rattle.board_rule.specs.declared.view.Doing.{Doing}
 use Rattle.board_rule.specs.declared.view.Doing.TheVariants.{Idle}
-use Rattle.board_words.specs.Words.{width, journal_index}
+use Rattle.board_rule.specs.Encodings.{width, journal_index}
 use Rattle.transfer_table.specs.Counts.{one_if}
-use Rattle.board_words.specs.Counts.{total}
+use Rattle.board_rule.specs.Sums.{total}
 use Rattle.board_rule.specs.Counts.{draws, numbered, no_load, Load, part, load, guests}
 use Rattle.board_rule.specs.Views.{first_view, no_marks, split_left, split_right}
 use Rattle.board_rule.specs.Rule.{Stands, Knows, KnowsSites, HasFlags, IsSeat, DoesRight}
 use Rattle.board_rule.specs.Laws.{St, Keeps}
-use Rattle.board_words.proofs.Totals.{total-same, total-snoc}
+use Rattle.board_rule.proofs.Totals.{total-same, total-snoc}
 use Rattle.board_rule.proofs.Loads.{part-idle}
-use Rattle.board_words.proofs.Sets.{in-no_site}
-use Rattle.board_words.proofs.Places.{place_at}
+use Rattle.board_rule.proofs.Sets.{in-no_site}
+use Rattle.board_rule.proofs.Places.{place_at}
 use Rattle.board_rule.proofs.SiteSteps.{sites_other, guests-load}
 use Rattle.hart_port.specs.Words.{owner_digits}
 use Rattle.board_rule.specs.declared.layout.Layout.{Layout}

@@ -21,9 +21,9 @@ use Rattle.board_rule.specs.declared.view.Doing.{Doing}
 use Rattle.board_rule.specs.declared.view.Doing.TheVariants.{Idle, Claiming, Crediting, Sealing}
 use Rattle.board_rule.specs.Counts.{Load, no_load, weight, busy_at, part, load, guests}
 use Rattle.board_rule.specs.Views.{register_view, request_view, skip_view, home_marks}
-use Rattle.board_words.specs.Shown.{started}
+use Rattle.board_rule.specs.Shown.{started}
 use Rattle.board_rule.specs.Rule.{Stands, KnowsSites, IsSeat, IsSiteWord, DoesRight}
-use Rattle.board_words.proofs.Shown.{shown-new, shown-live, shown-after}
+use Rattle.board_rule.proofs.Shown.{shown-new, shown-live, shown-after}
 use Rattle.board_rule.specs.Steps.{MayRequest}
 use Rattle.board_rule.specs.Laws.{St, Appends}
 use Rattle.board_rule.specs.StepLaws.{after_tick}
@@ -31,12 +31,12 @@ use Rattle.board_rule.specs.declared.layout.Layout.{Layout}
 use Rattle.board_rule.specs.Layouts.{entries_of, Adds, insiders}
 use Rattle.board_rule.proofs.Layouts.{insiders_stay}
 use Rattle.board_rule.proofs.Loads.{part-elsewhere, part-here, part-idle, load-shift}
-use Rattle.board_words.proofs.Sets.{with_site-same, with_site-other, with_site-in, with_site-keeps, without-other, without-in}
+use Rattle.board_rule.proofs.Sets.{with_site-same, with_site-other, with_site-in, with_site-keeps, without-other, without-in}
 use Rattle.board_rule.proofs.SiteWords.{registered_word, requested_word, skipped_word}
 use Rattle.board_rule.proofs.BoardSteps.{board_step, in_plan, other_hart, sites_moved}
 use Rattle.board_rule.proofs.Claims.{turns_to, idle_part}
 use Rattle.board_rule.proofs.Looks.{home_live}
-use Rattle.board_words.proofs.Asked.{asked_by_home, is_home-some}
+use Rattle.board_rule.proofs.Asked.{asked_by_home, is_home-some}
 
 -- A site's word with a row is also its word with an equal row.
 pub word_row : {w : ℕ} {b : Bool} {c : Load} {r r' : Row} {m : ℕ} → r ≡ r' → IsSiteWord w b c r m → IsSiteWord w b c r' m

@@ -13,16 +13,16 @@ use Rattle.transfer_table.specs.declared.entry.Entry.{Entry}
 use Rattle.board_rule.specs.declared.view.View.{View}
 use Rattle.board_rule.specs.declared.view.Marks.{Marks}
 use Rattle.board_rule.specs.declared.view.Look.{Look}
-use Rattle.board_words.specs.declared.entries.Ended.{Ended}
+use Rattle.board_rule.specs.declared.entries.Ended.{Ended}
 use Rattle.board_rule.specs.declared.view.Doing.{Doing}
-use Rattle.board_words.specs.Words.{journal_index, journal_word}
-use Rattle.board_words.specs.Counts.{total}
+use Rattle.board_rule.specs.Encodings.{journal_index, journal_word}
+use Rattle.board_rule.specs.Sums.{total}
 use Rattle.board_rule.specs.Counts.{draws, numbered, Load, part, load, guests}
-use Rattle.board_words.specs.Shown.{shown}
+use Rattle.board_rule.specs.Shown.{shown}
 use Rattle.board_rule.specs.Rule.{Stands, Knows, KnowsSites, IsSeat, IsSiteWord, DoesRight}
 use Rattle.board_rule.specs.Laws.{St, after_step, Keeps}
-use Rattle.board_words.proofs.Totals.{total-same}
-use Rattle.board_words.proofs.Places.{place_at}
+use Rattle.board_rule.proofs.Totals.{total-same}
+use Rattle.board_rule.proofs.Places.{place_at}
 use Rattle.board_rule.proofs.Loads.{load-same}
 
 -- the closing bits, with bit b for x

@@ -6,8 +6,8 @@ use Rattle.transfer_table.specs.declared.entry.Row.{Row}
 use Rattle.transfer_table.specs.declared.entry.Stage.{Stage}
 use Rattle.transfer_table.specs.declared.entry.Stage.TheVariants.{New, Live, Gone}
 use Rattle.transfer_table.specs.Counts.{one_if}
-use Rattle.board_words.specs.Shown.{started}
-use Rattle.board_words.proofs.Bits.{or_one, or_two, or_four, bit_of, gone_bit, unstarted, all_gone, live_now}
+use Rattle.board_rule.specs.Shown.{started}
+use Rattle.board_rule.proofs.Bits.{or_one, or_two, or_four, bit_of, gone_bit, unstarted, all_gone, live_now}
 use Rattle.board_rule.specs.declared.view.Doing.TheVariants.{Claiming, Crediting, Reserved, Landing, Leaving, Sealing}
 use Rattle.board_rule.specs.Counts.{Load, no_load, weight}
 use Rattle.board_rule.specs.Rule.{IsSiteWord}

@@ -8,7 +8,7 @@ use Rattle.board_rule.specs.declared.view.View.{View}
 use Rattle.board_rule.specs.declared.view.Doing.{Doing}
 use Rattle.board_rule.specs.declared.view.Doing.TheVariants.{Idle, Claiming, Crediting, Reserved, Landing, Leaving, Sealing}
 use Rattle.transfer_table.specs.Counts.{one_if}
-use Rattle.board_words.specs.Counts.{total, draws_in}
+use Rattle.board_rule.specs.Sums.{total, draws_in}
 
 -- 1 for a view that has drawn the index and hasn't written its entry
 abbrev pub draws : ℕ → View → ℕ

@@ -11,12 +11,12 @@ use Rattle.transfer_table.specs.declared.entry.Stage.TheVariants.{Gone}
 use Rattle.transfer_table.specs.declared.entry.Entry.{Entry}
 use Rattle.hart_port.specs.PortView.{is_in}
 use Rattle.board_rule.specs.declared.view.View.{View}
-use Rattle.board_words.specs.declared.entries.Ended.{Ended}
+use Rattle.board_rule.specs.declared.entries.Ended.{Ended}
 use Rattle.board_rule.specs.declared.layout.Layout.{Layout}
 use Rattle.board_rule.specs.Layouts.{entries_of}
-use Rattle.board_words.specs.Words.{journal_word, spelled}
-use Rattle.board_words.specs.Counts.{total, ended_as}
-use Rattle.board_words.specs.Places.{AreAt}
+use Rattle.board_rule.specs.Encodings.{journal_word, spelled}
+use Rattle.board_rule.specs.Sums.{total, ended_as}
+use Rattle.board_rule.specs.Places.{AreAt}
 
 -- the words have this journal, each entry at its index
 pub record Spells (lay : Layout) (p : Plan) (ws : List ℕ) (es : List Entry) : Type 0 where

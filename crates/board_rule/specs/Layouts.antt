@@ -4,7 +4,7 @@ use Rattle.std.specs.Prelude.{◌≡◌, ℕ, ◌+◌, ◌*◌, ◌≤◌}
 use Rattle.transfer_table.specs.Plan.{Plan}
 use Rattle.transfer_table.specs.Table.{TableState}
 use Rattle.hart_port.specs.Words.{board_word}
-use Rattle.guest_counts.specs.Guests.{guests_in}
+use Rattle.transfer_table.specs.Guests.{guests_in}
 use Rattle.board_rule.specs.Words.{length_unit, owner_unit, entries_in}
 use Rattle.board_rule.specs.declared.layout.Layout.{Layout}
 use Rattle.board_rule.specs.declared.layout.Layout.TheVariants.{Owners, Guests}

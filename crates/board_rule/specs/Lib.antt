@@ -7,3 +7,8 @@ pub mod Steps
 pub mod Laws
 pub mod StepLaws
 pub mod Ends
+pub mod Encodings
+pub mod Sums
+pub mod Places
+pub mod Shown
+pub mod Sets

@@ -16,20 +16,20 @@ use Rattle.transfer_table.specs.declared.entry.Entry.TheVariants.{Request, Enter
 use Rattle.hart_port.specs.PortView.{is_in}
 use Rattle.board_rule.specs.declared.view.View.{View}
 use Rattle.board_rule.specs.declared.view.Marks.{Marks}
-use Rattle.board_words.specs.declared.entries.Drawn.{Drawn}
-use Rattle.board_words.specs.declared.entries.Ended.{Ended}
+use Rattle.board_rule.specs.declared.entries.Drawn.{Drawn}
+use Rattle.board_rule.specs.declared.entries.Ended.{Ended}
 use Rattle.board_rule.specs.declared.view.Doing.{Doing}
 use Rattle.board_rule.specs.declared.view.Doing.TheVariants.{Idle, Claiming, Crediting, Reserved, Landing, Leaving, Sealing}
 use Rattle.board_rule.specs.declared.layout.Layout.{Layout}
 use Rattle.board_rule.specs.declared.layout.Layout.TheVariants.{Owners, Guests}
 use Rattle.board_rule.specs.Layouts.{HasRoom, first_word, insiders}
-use Rattle.board_words.specs.Words.{width, journal_word, wish_unit, guest_unit}
+use Rattle.board_rule.specs.Encodings.{width, journal_word, wish_unit, guest_unit}
 use Rattle.transfer_table.specs.Counts.{one_if}
-use Rattle.board_words.specs.Counts.{total, ended_as}
+use Rattle.board_rule.specs.Sums.{total, ended_as}
 use Rattle.board_rule.specs.Counts.{draws, numbered, Load, load, guests}
 use Rattle.board_rule.specs.Views.{spent_view}
-use Rattle.board_words.specs.Places.{IsPlace, AreAt, is_last}
-use Rattle.board_words.specs.Shown.{started, shown}
+use Rattle.board_rule.specs.Places.{IsPlace, AreAt, is_last}
+use Rattle.board_rule.specs.Shown.{started, shown}
 
 -- ---- a site
 

@@ -16,7 +16,7 @@ use Rattle.hart_port.specs.Words.{flight_of}
 use Rattle.board_rule.specs.declared.layout.Layout.{Layout}
 use Rattle.board_rule.specs.declared.layout.Layout.TheVariants.{Owners, Guests}
 use Rattle.board_rule.specs.Layouts.{entries_of, Adds}
-use Rattle.board_words.specs.Words.{journal_index, spelled, wish_unit, guest_unit}
+use Rattle.board_rule.specs.Encodings.{journal_index, spelled, wish_unit, guest_unit}
 use Rattle.board_rule.specs.Counts.{busy_at, load, guests}
 use Rattle.board_rule.specs.Views.{split_left, split_right, joined_view, spent_view, glance_view, see_gone_view, see_drained_view, see_empty_view, claim_view, reserve_view, done_view, close_view, jot_view, register_view, request_view, enter_view, yield_view, unregister_view, skip_view}
 use Rattle.board_rule.specs.Rule.{Stands, IsSeat}

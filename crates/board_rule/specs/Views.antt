@@ -17,7 +17,7 @@ use Rattle.board_rule.specs.declared.view.LookKind.{LookKind}
 use Rattle.board_rule.specs.declared.view.LookKind.TheVariants as look
 use Rattle.board_rule.specs.declared.view.Marks.{Marks}
 use Rattle.board_rule.specs.declared.view.Doing.TheVariants.{Idle, Claiming, Crediting, Reserved, Sealing}
-use Rattle.board_words.specs.Sets.{union}
+use Rattle.board_rule.specs.Sets.{union}
 
 -- ---- seats that are made, split and joined
 

@@ -1,6 +1,6 @@
 //! What a seat knows. These types are ghost: no value of them exists at run time. A clause reads an array as a list, of any
 //! length.
-use board_words::{Drawn, Ended};
+use crate::entries::{Drawn, Ended};
 use transfer_table::{Entry, Plan};
 
 /// The kinds of step whose word is noted.

@@ -1,7 +1,7 @@
 //! The words of the command line, parsed by `clap`.
 //!
 //! `command_of` in `words.rt` returns the command of a list of words. `specs/Form.antt` defines which lists of words are forms
-//! of a command. The tests of `words_tests` have examples.
+//! of a command. The tests of `command_tests` have examples.
 #![tactic(auto)]
 
 mod app;

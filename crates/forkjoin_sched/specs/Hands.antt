@@ -7,7 +7,7 @@ use Rattle.deque_rows.specs.declared.account.Log.{Log}
 use Rattle.deque_rows.specs.declared.hart.HartRows.{HartRows}
 use Rattle.deque_rows.specs.Account.{HeldAtMost, Rose, after_push}
 use Rattle.deque_rows.specs.Rows.{identity, home_logs, pass_logs, bares, home_log, pass_log, bare}
-use Rattle.work_agenda.specs.Agenda.{GivesReady}
+use Rattle.sched_api.specs.Agenda.{GivesReady}
 use Rattle.forkjoin_sched.specs.Pools.{PoolParts, Answers, with_agenda}
 use Rattle.forkjoin_sched.specs.declared.work.PoolWork.{PoolWork}
 use Rattle.forkjoin_sched.specs.declared.work.PoolWork.TheVariants.{Begin, Ready}

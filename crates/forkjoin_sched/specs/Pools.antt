@@ -2,8 +2,8 @@
 use Rattle.std.specs.Prelude.{◌≡◌, ℕ, List, [], ◌∷◌, ◌++◌, length, map, Option, Some, None, Result}
 use Rattle.sched_api.specs.Wishes.{wishes_after}
 use Rattle.sched_api.specs.declared.hearing.Told.{Told}
-use Rattle.work_agenda.specs.declared.agenda.TheConstants.{MOST_WISHES}
-use Rattle.work_agenda.specs.Agenda.{AgendaParts, TakesNext, PutsReady}
+use Rattle.sched_api.specs.declared.agenda.TheConstants.{MOST_WISHES}
+use Rattle.sched_api.specs.Agenda.{AgendaParts, TakesNext, PutsReady}
 use Rattle.sched_api.specs.declared.scheduler.Next.{Next}
 use Rattle.lithe_mutex.specs.Mutex.{Possession, Free, Held}
 use Rattle.array_jobs.specs.Jobs.{JobParts}

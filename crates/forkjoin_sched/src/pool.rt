@@ -4,7 +4,7 @@ ghost use Rattle.sched_api.specs.declared.hearing.Told.{Told};
 ghost use Rattle.sched_api.specs.Wishes.{with_wishes};
 ghost use Rattle.array_jobs.specs.Jobs.{job_of};
 ghost use Rattle.array_jobs.specs.Groups.{IsGroup};
-ghost use Rattle.work_agenda.specs.Agenda.{GivesReady};
+ghost use Rattle.sched_api.specs.Agenda.{GivesReady};
 ghost use Rattle.join_book.specs.Books.{Open, Filled, Failed, IsMarked, IsPlaceOf, IsFull, HasFailed, Deposits, Puts, marked_book, all_writes};
 ghost use Rattle.forkjoin_sched.specs.declared.work.PoolWork.TheVariants.{Begin};
 ghost use Rattle.forkjoin_sched.specs.Pools.{new_pool, roomy_pool, Answers, Hears, Takes, with_book, with_agenda, GivesJob};
@@ -14,11 +14,10 @@ use array_eval::Overlay;
 use array_jobs::{Job, Piece};
 use join_book::{Book, Deposit};
 use lithe_mutex::{Acquired, MutexState};
-use sched_api::{Call, Hearing, Next, Scheduler, Told};
+use sched_api::{Agenda, Call, Hearing, MOST_WISHES, Next, Scheduler, Told};
 use std::alloc::{AllocError, Global};
 use std::collections::VecDeque;
 use std::marker::Model;
-use work_agenda::{Agenda, MOST_WISHES};
 
 /// The receipt of a callback of a pool.
 #[derive(Drop)]

@@ -8,10 +8,10 @@ use Rattle.std.proofs.Crossing.{crosses}
 use Rattle.array_jobs.specs.contracts.piece.Piece as Piece
 use Rattle.base_sched.specs.contracts.shared.SharedBase as SharedBase
 use Rattle.base_sched.proofs.shared.SharedBase.TheSendSync as BaseCrosses
-use Rattle.site_directory.specs.contracts.shared_site.SharedSite as SharedSite
+use Rattle.shared_sites.specs.contracts.shared_site.SharedSite as SharedSite
 use Rattle.loop_team.proofs.Crossings.{job_send}
-use Rattle.site_directory.proofs.Crossings.{line_send}
-use Rattle.hart_tools.proofs.tools.Tools.TheSendSync as ToolsCrosses
+use Rattle.shared_sites.proofs.Crossings.{line_send}
+use Rattle.shared_sites.proofs.tools.Tools.TheSendSync as ToolsCrosses
 use Rattle.hart_loop.specs.contracts.harts.HartSchedulers as HartSchedulers
 use Rattle.hart_loop.specs.contracts.hart.Hart as Hart
 

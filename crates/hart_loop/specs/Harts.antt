@@ -7,7 +7,7 @@ use Rattle.hart_port.specs.PortView.{PortView, is_in}
 use Rattle.site_steps.specs.Back.{IsSettled}
 use Rattle.array_jobs.specs.Jobs.{JobParts}
 use Rattle.array_jobs.specs.PieceParts.{PieceParts}
-use Rattle.hart_tools.specs.Identities.{ToolIdentities}
+use Rattle.shared_sites.specs.Identities.{ToolIdentities}
 use Rattle.hart_loop.specs.declared.hart.Hart.{Hart}
 
 -- The hart is in the base, and the home of no site; others may share the table.

@@ -4,9 +4,9 @@ use Rattle.array_tree.specs.Trees.{statement_of}
 use Rattle.array_jobs.specs.Jobs.{job_of}
 use Rattle.step_eval.specs.Nests.{NestedParts, nested_of, phases_of, jobs_in, IsFitNest}
 use Rattle.forkjoin_sched.specs.Shared.{SharedParts}
-use Rattle.site_directory.specs.declared.shared_site.SharedSite.{SharedSite}
+use Rattle.shared_sites.specs.declared.shared_site.SharedSite.{SharedSite}
 use Rattle.pipe_sched.specs.Pipes.{IsUncrossed}
-use Rattle.site_directory.specs.declared.shared_site.SharedSite.TheVariants.{Pool, Team, Pipe, Alone}
+use Rattle.shared_sites.specs.declared.shared_site.SharedSite.TheVariants.{Pool, Team, Pipe, Alone}
 use Rattle.hart_loop.specs.declared.hart_site.Placement.{Placement}
 use Rattle.hart_loop.specs.declared.hart_site.Placement.TheVariants.{Base, Published, Kept}
 use Rattle.hart_loop.specs.declared.hart_site.HartSite.{HartSite}

@@ -1,8 +1,8 @@
 //! One site, as one of several harts has it.
 ghost use Rattle.std.specs.Prelude.{◌≡◌, IfOk, IsSome, IfSome, Some, option_map};
 ghost use Rattle.step_eval.specs.Nests.{NestedParts, nested_of, nested_writes};
-ghost use Rattle.hart_tools.specs.Places.{Fits};
-ghost use Rattle.hart_tools.specs.Hands.{IsCompleted};
+ghost use Rattle.shared_sites.specs.Places.{Fits};
+ghost use Rattle.shared_sites.specs.Hands.{IsCompleted};
 ghost use Rattle.hart_loop.specs.Openings.{IsOpened, kept_in};
 
 use crate::in_directory::InDirectory;
@@ -10,8 +10,7 @@ use crate::members::TeamMode;
 use crate::opened::{publish, shared_site, written_by};
 use array_eval::Overlay;
 use base_sched::SharedBase;
-use hart_tools::{Completed, SchedulerRef, Tools};
-use site_directory::{SharedSite, SiteCell};
+use shared_sites::{Completed, SchedulerRef, SharedSite, SiteCell, Tools};
 use std::alloc::{AllocError, Global};
 use std::sync::Wait;
 use step_eval::Nested;

@@ -12,14 +12,13 @@ use array_eval::Overlay;
 use array_jobs::{Job, Piece};
 use array_tree::Block;
 use hart_port::{Port, Taken};
-use hart_tools::Tools;
 use hart_work::{Schedulers, Task};
 use job_machines::JobMachines;
 use sched_api::{
     Lent, Next, Scheduler, sched_enter, sched_register, sched_request, sched_unregister,
     sched_yield,
 };
-use site_directory::SiteCell;
+use shared_sites::{SiteCell, Tools};
 use std::alloc::{AllocError, Global};
 use std::marker::PhantomData;
 use std::sync::Wait;

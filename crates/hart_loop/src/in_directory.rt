@@ -1,8 +1,8 @@
 //! The contents of the directory's cells, as a type parameter.
 ghost use Rattle.std.specs.Prelude.{◌≡◌};
-ghost use Rattle.site_directory.specs.declared.shared_site.SharedSite.{SharedSite};
+ghost use Rattle.shared_sites.specs.declared.shared_site.SharedSite.{SharedSite};
 
-use site_directory::SharedSite;
+use shared_sites::SharedSite;
 
 /// A type that holds a `SharedSite`, as the directory's cells do.
 ///

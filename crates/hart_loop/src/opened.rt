@@ -8,19 +8,18 @@ ghost use Rattle.step_eval.specs.declared.shape.Kind.TheVariants as kind;
 ghost use Rattle.step_eval.specs.Shapes.{kind_of};
 ghost use Rattle.step_eval.specs.Nests.{nested_of, nested_writes};
 ghost use Rattle.pipe_sched.specs.Pipes.{IsUncrossed};
-ghost use Rattle.hart_tools.specs.Hands.{IsCompleted};
+ghost use Rattle.shared_sites.specs.Hands.{IsCompleted};
 ghost use Rattle.hart_loop.specs.Openings.{IsMadeOf, IsSharedPoolOf, kept_in};
 
 use crate::hart_site::Placement;
 use crate::members::TeamMode;
 use array_eval::Overlay;
 use forkjoin_sched::{Pool, SharedPool};
-use hart_tools::Completed;
 use lone_hart::{open_pool, open_team, room_for_wishes, take_from_pool};
 use loop_team::{SharedTeam, Team};
 use pipe_sched::{Pipe, SharedPipe};
 use pipe_walk::uncrossed;
-use site_directory::{SharedSite, SiteCell};
+use shared_sites::{Completed, SharedSite, SiteCell};
 use std::alloc::{AllocError, Global};
 use step_eval::{Kind, Nested, compute};
 

@@ -6,8 +6,8 @@ use Rattle.transfer_table.specs.Plan.{Plan, IsSite, parent}
 use Rattle.transfer_table.specs.Entry.{unregisters, skips_over}
 use Rattle.transfer_table.specs.declared.entry.Entry.{Entry}
 use Rattle.hart_port.specs.PortView.{PortView}
-use Rattle.site_accounts.specs.Accounts.{AreFresh, IsFresh, IsSpan}
-use Rattle.site_accounts.specs.Laws.{IsSkippedSpan}
+use Rattle.transfer_table.specs.Accounts.{AreFresh, IsFresh, IsSpan}
+use Rattle.transfer_table.specs.AccountLaws.{IsSkippedSpan}
 use Rattle.contexts.specs.declared.machine.Step.{Step}
 use Rattle.contexts.specs.declared.machine.Step.TheVariants.{More, Nest, Finished, NoMemory}
 use Rattle.hart_work.specs.declared.found.Found.{Found}

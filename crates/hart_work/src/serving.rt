@@ -4,8 +4,8 @@ ghost use Rattle.transfer_table.specs.Plan.{Plan, IsSite};
 ghost use Rattle.transfer_table.specs.Entry.{requested};
 ghost use Rattle.transfer_table.specs.declared.entry.Entry.{Entry};
 ghost use Rattle.hart_port.specs.PortView.{IsPortView, is_in};
-ghost use Rattle.site_accounts.specs.Accounts.{AreFresh, IsSpan};
-ghost use Rattle.site_accounts.specs.Laws.{IsSkippedSpan};
+ghost use Rattle.transfer_table.specs.Accounts.{AreFresh, IsSpan};
+ghost use Rattle.transfer_table.specs.AccountLaws.{IsSkippedSpan};
 ghost use Rattle.site_steps.specs.Back.{IsSettled, IsBack};
 ghost use Rattle.site_steps.specs.Skips.{HasSkipped};
 ghost use Rattle.hart_work.specs.Tasks.{StaysSettled, HasAccount};
@@ -83,8 +83,8 @@ pub fn run_piece<P: PatientPort, R, M: Machines, H: Schedulers<R, M>, F: Fn(u8, 
 
 /// Runs a construct as a site inside the hart's owner, and returns the hart to its owner.
 ///
-/// It checks that the construct's site is a child of the owner, as `register` requires; by the laws of `planned_sites` it
-/// always is. Sites have higher numbers than the site around them, so the recursion ends.
+/// It checks that the construct's site is a child of the owner, as `register` requires; by the laws in `planned_sites.rt` of
+/// `job_machines` it always is. Sites have higher numbers than the site around them, so the recursion ends.
 ///
 /// # Errors
 ///

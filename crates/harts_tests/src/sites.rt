@@ -9,7 +9,6 @@ use array_tree::Program;
 use deque_rows::rows;
 use disjoint_check::check;
 use hart_loop::{HartSchedulers, HartSite, InDirectory, TeamMode};
-use hart_tools::{Claims, Tools, tools_of};
 use hart_work::{Schedulers, Task};
 use job_machines::JobMachines;
 use loop_team::ClaimSeat;
@@ -17,7 +16,7 @@ use once_cell::race::OnceBox;
 use sample_programs::{
     BOTH_BRANCHES, BOTH_PHASES, TWO_BRANCHES, TWO_PHASES, first_construct, parsed,
 };
-use site_directory::{SharedSite, cells, lines};
+use shared_sites::{Claims, SharedSite, Tools, cells, lines, tools_of};
 use std::alloc::Global;
 use std::sync::Wait;
 use std::test::Fail;

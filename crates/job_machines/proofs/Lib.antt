@@ -1,1 +1,21 @@
 mod Seen
+pub mod ParentLemmas
+pub mod WorkLemmas
+pub mod JobLemmas
+pub mod NumberLemmas
+pub mod Counts
+pub mod Goes
+pub mod PassedJobs
+pub mod Cutting
+pub mod Parts
+pub mod Ahead
+pub mod Accounts
+pub mod Each
+pub mod Serving
+pub mod Laid
+pub mod NotDone
+pub mod Reported
+pub mod Going
+pub mod Jobs
+pub mod Closing
+pub mod Orders

@@ -8,8 +8,8 @@ use Rattle.step_eval.specs.declared.found.Found.TheVariants as found
 use Rattle.step_eval.specs.declared.stage.Stage.TheVariants.{Going}
 use Rattle.step_eval.specs.Nests.{NestedParts, nested_of, nested_writes}
 use Rattle.step_eval.specs.Machines.{Progress, is_awaiting, left_of, HasGone, IsFinished, AreAwaitedBy}
-use Rattle.machine_accounts.specs.Machines.{IsRunJob}
-use Rattle.machine_accounts.proofs.Going.{machines_run_on, machines_wait, machines_pass, machines_finish}
+use Rattle.job_machines.specs.Machines.{IsRunJob}
+use Rattle.job_machines.proofs.Going.{machines_run_on, machines_wait, machines_pass, machines_finish}
 use Rattle.job_machines.specs.Accounts.{IsAwaitingWrites, is_fresh, is_run_job, is_going, is_waiting}
 use Rattle.job_machines.specs.Met.{as_seen}
 use Rattle.hart_work.specs.Tasks.{Goes}

@@ -6,7 +6,7 @@ use Rattle.array_jobs.specs.Jobs.{JobParts, job_of}
 use Rattle.step_eval.specs.Nests.{NestedParts, nested_of}
 use Rattle.step_eval.specs.Machines.{Progress, AreAwaited}
 use Rattle.step_eval.specs.declared.stage.Stage.TheVariants.{Awaiting}
-use Rattle.machine_accounts.specs.Machines.{IsFreshJob, IsRunJob, IsFreshConstruct, IsRunNested, IsGoing, IsWaiting}
+use Rattle.job_machines.specs.Machines.{IsFreshJob, IsRunJob, IsFreshConstruct, IsRunNested, IsGoing, IsWaiting}
 
 -- The machine awaits these writes.
 abbrev pub IsAwaitingWrites : Progress → List (ℕ × ℤ) → Type 0

@@ -1,2 +1,12 @@
 pub mod Accounts
 pub mod Met
+pub mod Planned
+pub mod Numbers
+pub mod Passes
+pub mod Entering
+pub mod Parts
+pub mod Piece
+pub mod Constructs
+pub mod Machines
+pub mod Serving
+pub mod Orders

@@ -2,7 +2,7 @@
 //!
 //! Pools and barriers each have a book, for authors of schedulers. A book has a slot for each job. It takes a piece only into
 //! the slot of the piece's job, and merges all when each slot is filled or failed. Begin with `Book` in `book.rt`; the tests of
-//! `sched_tests` fill books.
+//! `piece_tests` fill books.
 #![tactic(auto)]
 
 mod book;

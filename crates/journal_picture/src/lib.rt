@@ -1,7 +1,7 @@
 //! A journal as a picture: where each hart was from when to when, and at each place how many wishes are unmet and how many harts
 //! are idle.
 //!
-//! `run_picture` draws the journal of a run with it. The height of a bar shows how deep its site is and the outline shows the
+//! `picture_call` draws the journal of a run with it. The height of a bar shows how deep its site is and the outline shows the
 //! kind, so no colour is needed. A long journal is drawn in rows. The caller passes the verdict as text, so a picture needs no
 //! language and no audit. Begin with `stays_of` in `stay.rt` and `text_picture` in `text.rt`; the tests of `picture_tests` draw
 //! small journals.

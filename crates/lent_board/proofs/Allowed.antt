@@ -16,14 +16,14 @@ use Rattle.board_rule.specs.declared.view.Doing.TheVariants.{Claiming, Crediting
 use Rattle.board_rule.specs.declared.layout.Layout.{Layout}
 use Rattle.board_rule.specs.declared.layout.Layout.TheVariants.{Owners}
 use Rattle.board_rule.specs.Layouts.{entries_of, Adds}
-use Rattle.board_words.specs.Words.{journal_index, spelled}
+use Rattle.board_rule.specs.Encodings.{journal_index, spelled}
 use Rattle.board_rule.specs.Counts.{busy_at}
 use Rattle.board_rule.specs.Views.{claim_view, reserve_view, glance_view, see_gone_view, see_drained_next, see_drained_view, see_empty_view, close_view, done_view, jot_view, register_view, request_view, enter_view, yield_view, unregister_view, skip_view}
 use Rattle.board_rule.specs.Rule.{Stands, IsSeat, DoesRight}
 use Rattle.board_rule.specs.Steps.{IsReady, MayFollow, MayClaim, MayReserve, MayRequest, MayYield, MayClose, MaySeeDrained, MaySeeEmpty, MayUnregister}
 use Rattle.board_rule.specs.Laws.{St}
-use Rattle.board_words.proofs.Asked.{new_untouched}
-use Rattle.board_words.proofs.Rooms.{has_room}
+use Rattle.board_rule.proofs.Asked.{new_untouched}
+use Rattle.board_rule.proofs.Rooms.{has_room}
 use Rattle.board_rule.proofs.Bounds.{small_word}
 use Rattle.board_rule.proofs.Claims.{claim_keeps, reserve_keeps}
 use Rattle.board_rule.proofs.Dones.{credit_keeps, land_keeps, leave_keeps, seal_keeps, close_keeps}

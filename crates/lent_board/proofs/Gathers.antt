@@ -18,14 +18,14 @@ use Rattle.transfer_table.proofs.Balance.{legal_entries}
 use Rattle.hart_port.specs.PortView.{is_in}
 use Rattle.board_rule.specs.declared.view.View.{View}
 use Rattle.transfer_table.specs.Counts.{one_if}
-use Rattle.board_words.specs.Counts.{ended_as}
+use Rattle.board_rule.specs.Sums.{ended_as}
 use Rattle.board_rule.specs.Views.{joined_view}
-use Rattle.board_words.specs.Sets.{union}
+use Rattle.board_rule.specs.Sets.{union}
 use Rattle.board_rule.specs.Ends.{AllEnded, IsJournal}
 use Rattle.board_rule.specs.Rule.{FitsPlan}
-use Rattle.board_words.specs.Places.{AreAt}
-use Rattle.board_words.proofs.Totals.{total-one}
-use Rattle.board_words.proofs.Sets.{length-union}
+use Rattle.board_rule.specs.Places.{AreAt}
+use Rattle.board_rule.proofs.Totals.{total-one}
+use Rattle.board_rule.proofs.Sets.{length-union}
 use Rattle.lent_board.proofs.Makers.{maker, all_gone}
 use Rattle.lent_board.specs.declared.seat.HartSeat.{HartSeat}
 use Rattle.lent_board.specs.Seats.{HasOne, HasFrom, SawGone, IsJournalOf}

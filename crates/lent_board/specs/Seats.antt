@@ -11,7 +11,7 @@ use Rattle.transfer_table.specs.declared.entry.Stage.TheVariants.{Gone}
 use Rattle.transfer_table.specs.declared.entry.Entry.{Entry}
 use Rattle.hart_port.specs.PortView.{is_in}
 use Rattle.board_rule.specs.declared.view.View.{View}
-use Rattle.board_words.specs.Places.{AreAt}
+use Rattle.board_rule.specs.Places.{AreAt}
 use Rattle.board_rule.specs.Views.{fresh_view}
 use Rattle.lent_board.specs.declared.seat.HartSeat.{HartSeat}
 

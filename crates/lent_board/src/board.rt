@@ -4,7 +4,7 @@ ghost use Rattle.transfer_table.specs.Plan.{IsPlan, IsSite, parent, site_count};
 ghost use Rattle.transfer_table.specs.declared.entry.Entry.TheVariants.{Request, Yield, Unregister};
 ghost use Rattle.hart_port.specs.PortView.{is_in};
 ghost use Rattle.board_rule.specs.declared.layout.Layout.TheVariants.{Owners};
-ghost use Rattle.board_words.specs.Words.{width};
+ghost use Rattle.board_rule.specs.Encodings.{width};
 ghost use Rattle.board_rule.specs.Views.{close_view, left_marks};
 ghost use Rattle.lent_board.specs.Calls.{Registers, Skips, MayAsk, Makes, Enters, SeesGone, Sees, SeesOwners, MayLeaveHome};
 
@@ -12,8 +12,7 @@ use crate::room::Room;
 use crate::seat::HartSeat;
 use crate::words::is_held;
 use atomic_table::Table;
-use board_rule::{BoardRule, Laid, Layout, View};
-use board_words::GUEST;
+use board_rule::{BoardRule, GUEST, Laid, Layout, View};
 use hart_port::{Entered, Seen, Taken, is_claimed, is_closed, is_wanted};
 use std::alloc::Global;
 use transfer_table::{Entry, Plan};

@@ -16,8 +16,7 @@ use crate::plays::{
     MakeUnregister, MakeYield, Reserve, SeeDrained, SeeEmpty, SeeGone, Shut,
 };
 use atomic_table::Seat;
-use board_rule::{Laid, Layout, View};
-use board_words::{GUEST, word_of};
+use board_rule::{GUEST, Laid, Layout, View, word_of};
 use hart_port::{CLAIMED, CLOSED, CLOSING, WISH};
 use std::marker::Brand;
 use transfer_table::Entry;

@@ -4,7 +4,7 @@
 //! brings the last piece gets the writes of the whole phase.
 //!
 //! `BarrierState` is the barrier of one owner, and `LitheBarrier` the same under a lock. Begin with `BarrierState` in
-//! `state.rt`. `loop_team` uses it, and `sched_tests` has examples.
+//! `state.rt`. `loop_team` uses it, and `piece_tests` has examples.
 #![tactic(auto)]
 
 mod shared;

@@ -10,7 +10,7 @@ use Rattle.array_meaning.specs.Steps.{writes_of}
 use Rattle.array_meaning.specs.Work.{final_store, first_store, sequence_work}
 use Rattle.array_meaning.specs.Entered.{entered_of}
 use Rattle.array_meaning.proofs.StepLemmas.{length_after}
-use Rattle.run_summary.specs.Summary.{summary_text}
+use Rattle.lithe_call.specs.Summary.{summary_text}
 use Rattle.lithe_call.specs.Programs.{table_plan}
 use Rattle.lithe_call.specs.Output.{IsSummary}
 

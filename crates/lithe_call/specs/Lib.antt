@@ -12,3 +12,4 @@ pub mod Status
 pub mod Served
 pub mod Lines
 pub mod Printed
+pub mod Summary

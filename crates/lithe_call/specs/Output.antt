@@ -15,7 +15,7 @@ use Rattle.command_words.specs.declared.command.Command.{Command}
 use Rattle.command_words.specs.declared.command.Command.TheVariants.{Run, Tally, Pipe, Solo, Audit, Make}
 use Rattle.command_words.specs.Parts.{harts_in}
 use Rattle.run_audit.specs.AuditText.{verdict_text}
-use Rattle.run_summary.specs.Summary.{summary_text}
+use Rattle.lithe_call.specs.Summary.{summary_text}
 use Rattle.run_audit.specs.declared.verdict.Verdict.{Verdict}
 use Rattle.lithe_call.specs.Programs.{SpellAccepted, table_plan, made_text}
 use Rattle.lithe_call.specs.Tallies.{SpellTallied}

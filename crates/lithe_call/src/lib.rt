@@ -2,7 +2,7 @@
 //!
 //! `lithe` is the call, and its contract states the correctness of the whole. `specs/Output.antt` defines the output of a
 //! command, `specs/Served.antt` what a call has read and written, and `src/laws.rt` what follows if the source shows its bytes
-//! beforehand.
+//! beforehand. `write_summary` in `summing.rt` writes the four lines of `make`.
 //!
 //! Begin with `lithe` in `call.rt` and the clause `done` of `AreServed` in `specs/Served.antt`. The program `lithe_run` calls
 //! it, and the tests of `lithe_tests` serve commands from memory.
@@ -18,6 +18,7 @@ mod pipe;
 mod reading;
 mod run;
 mod status;
+mod summing;
 mod tally;
 mod writing;
 

@@ -16,6 +16,7 @@ ghost use Rattle.lone_hart.specs.Journals.{entries_in};
 
 use crate::command::harts;
 use crate::fault::Fault;
+use crate::summing::write_summary;
 use array_eval::{run_one, write_arrays};
 use array_lang::{SyntaxFault, parse};
 use array_tree::Program;
@@ -26,7 +27,6 @@ use hart_loop::run_harts;
 use journal_text::write_entries;
 use lone_hart::{Outcome, run_alone};
 use outside_io::Gate;
-use run_summary::write_summary;
 use std::alloc::{AllocError, Global};
 use std::sync::Wait;
 use std::thread::Threads;

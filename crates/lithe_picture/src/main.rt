@@ -8,8 +8,7 @@ ghost use Rattle.picture_call.specs.Shown.{AreShown};
 ghost use Rattle.picture_call.specs.Texts.{own_text};
 
 use lithe_call::Status;
-use outside_io::{Sink, Source, StdSink, StdSource};
-use outside_words::{NoWords, words_of};
+use outside_io::{NoWords, Sink, Source, StdSink, StdSource, words_of};
 use picture_call::{no_memory_for_picture, no_picture_for_words, serve_picture};
 use std::alloc::Global;
 use std::process::ExitCode;

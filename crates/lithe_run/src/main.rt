@@ -10,8 +10,7 @@ ghost use Rattle.lithe_call.specs.Printing.{Prints};
 ghost use Rattle.lithe_call.specs.Served.{AreServed};
 
 use lithe_call::{Status, lithe, no_form_for_words, no_memory_for_words};
-use outside_io::{OpenGate, Sink, Source, StdSink, StdSource};
-use outside_words::{NoWords, words_of};
+use outside_io::{NoWords, OpenGate, Sink, Source, StdSink, StdSource, words_of};
 use std::alloc::Global;
 use std::process::ExitCode;
 use std::sync::Wait;

@@ -10,7 +10,7 @@ use Rattle.join_book.proofs.BookLemmas.{at_other, at_same, at_replicate}
 use Rattle.sched_api.specs.declared.scheduler.Next.{Next}
 use Rattle.sched_api.specs.declared.scheduler.Next.TheVariants.{Run, Lend, Nothing}
 use Rattle.sched_api.specs.Wishes.{WishList}
-use Rattle.work_agenda.specs.Agenda.{AgendaParts, TakesNext}
+use Rattle.sched_api.specs.Agenda.{AgendaParts, TakesNext}
 use Rattle.lone_hart.specs.Accounts.{Stands, AllCameBack, AllButOneCameBack}
 
 -- different jobs begin as different contexts

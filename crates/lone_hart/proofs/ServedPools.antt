@@ -8,14 +8,14 @@ use Rattle.array_jobs.specs.Jobs.{JobParts, job_of}
 use Rattle.join_book.specs.Books.{BookParts, Filled, Open, IsFull, marked_book}
 use Rattle.sched_api.specs.declared.scheduler.Next.TheVariants.{Run}
 use Rattle.sched_api.specs.Wishes.{WishList}
-use Rattle.work_agenda.specs.Agenda.{AgendaParts, TakesNext}
+use Rattle.sched_api.specs.Agenda.{AgendaParts, TakesNext}
 use Rattle.step_eval.specs.Nests.{NestedParts, nested_of, phases_of}
 use Rattle.forkjoin_sched.specs.Pools.{PoolParts}
 use Rattle.forkjoin_sched.specs.declared.work.PoolWork.{PoolWork}
 use Rattle.forkjoin_sched.specs.declared.work.PoolWork.TheVariants.{Begin, Ready}
-use Rattle.machine_accounts.specs.Machines.{IsFreshJob, IsRunJob}
-use Rattle.machine_accounts.specs.Orders.{HasServed}
-use Rattle.machine_accounts.proofs.Orders.{next_jobs_are_fresh, next_jobs_are_done, phases_turn}
+use Rattle.job_machines.specs.Machines.{IsFreshJob, IsRunJob}
+use Rattle.job_machines.specs.Orders.{HasServed}
+use Rattle.job_machines.proofs.Orders.{next_jobs_are_fresh, next_jobs_are_done, phases_turn}
 use Rattle.lone_hart.specs.Accounts.{Stands}
 use Rattle.lone_hart.specs.Sites.{IsPoolOf}
 use Rattle.lone_hart.specs.Served.{ServesPool, LendsJob}

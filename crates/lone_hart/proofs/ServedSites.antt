@@ -13,7 +13,7 @@ use Rattle.loop_team.specs.Teams as teams
 use Rattle.hart_work.specs.declared.schedulers.Task.{Task}
 use Rattle.hart_work.specs.declared.schedulers.Task.TheVariants.{Piece, Visit, Nothing}
 use Rattle.hart_work.specs.Accounts.{StaysServed, HaveEnded, HasServing}
-use Rattle.machine_accounts.proofs.Orders.{served_have_ended, served_are_run}
+use Rattle.job_machines.proofs.Orders.{served_have_ended, served_are_run}
 use Rattle.job_machines.specs.Accounts.{is_run}
 use Rattle.lone_hart.specs.Served.{is_serving, is_lent, serves_pool, serves_team}
 use Rattle.lone_hart.specs.declared.site.LoneSite.{LoneSite}

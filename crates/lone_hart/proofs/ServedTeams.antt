@@ -11,14 +11,14 @@ use Rattle.lithe_barrier.specs.declared.state.Arrival.{Arrival}
 use Rattle.lithe_barrier.specs.declared.state.Arrival.TheVariants.{Kept, Opened, Stranger}
 use Rattle.sched_api.specs.declared.scheduler.Next.TheVariants.{Run}
 use Rattle.sched_api.specs.Wishes.{WishList}
-use Rattle.work_agenda.specs.Agenda.{TakesNext}
+use Rattle.sched_api.specs.Agenda.{TakesNext}
 use Rattle.step_eval.specs.Nests.{nested_of}
 use Rattle.loop_team.specs.Teams.{TeamParts, IsOver, AreJobsIn, GoesOn, MovesOn, opened_team, with_barrier, with_agenda, with_phase, phases_in}
 use Rattle.loop_team.specs.declared.work.TeamWork.{TeamWork}
 use Rattle.loop_team.specs.declared.work.TeamWork.TheVariants.{Begin, Ready}
-use Rattle.machine_accounts.specs.Machines.{IsFreshJob, IsRunJob}
-use Rattle.machine_accounts.specs.Orders.{HasServed}
-use Rattle.machine_accounts.proofs.Orders.{next_jobs_are_fresh, next_jobs_are_done, phases_turn}
+use Rattle.job_machines.specs.Machines.{IsFreshJob, IsRunJob}
+use Rattle.job_machines.specs.Orders.{HasServed}
+use Rattle.job_machines.proofs.Orders.{next_jobs_are_fresh, next_jobs_are_done, phases_turn}
 use Rattle.lone_hart.specs.Accounts.{Stands}
 use Rattle.lone_hart.specs.Served.{ServesPhase, ServedPhases, LendsMember, serves_team}
 use Rattle.lone_hart.proofs.Accounts.{IsOneToOne, handed, none_out, came_back, all_back, out_place, seen_job, heard}

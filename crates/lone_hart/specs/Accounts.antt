@@ -2,7 +2,7 @@
 use Rattle.std.specs.Prelude.{◌≡◌, ℕ, suc, ◌<◌, ◌≤◌, [], length, map, drop, slice_get, Some}
 use Rattle.array_jobs.specs.Jobs.{JobParts}
 use Rattle.join_book.specs.Books.{BookParts, Open, IsMarked}
-use Rattle.work_agenda.specs.Agenda.{AgendaParts}
+use Rattle.sched_api.specs.Agenda.{AgendaParts}
 
 -- The state of a book of jobs and an agenda: no context is ready, the jobs before index `begun` were handed out, and exactly
 -- those before index `done` came back, as a piece or as a failure.

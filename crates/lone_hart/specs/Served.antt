@@ -9,7 +9,7 @@ use Rattle.forkjoin_sched.specs.Pools.{PoolParts}
 use Rattle.forkjoin_sched.specs.declared.work.PoolWork.TheVariants as pool_work
 use Rattle.loop_team.specs.Teams.{TeamParts, AreJobsIn, phases_in}
 use Rattle.loop_team.specs.declared.work.TeamWork.TheVariants as team_work
-use Rattle.machine_accounts.specs.Orders.{HasServed}
+use Rattle.job_machines.specs.Orders.{HasServed}
 use Rattle.lone_hart.specs.Accounts.{Stands}
 use Rattle.lone_hart.specs.Sites.{IsPoolOf}
 use Rattle.lone_hart.specs.declared.site.LoneSite.{LoneSite}

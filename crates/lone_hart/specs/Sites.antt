@@ -6,7 +6,7 @@ use Rattle.array_jobs.specs.Jobs.{JobParts, job_of}
 use Rattle.join_book.specs.Books.{IsFull, HasFailed}
 use Rattle.step_eval.specs.Nests.{NestedParts, nested_of, phases_of, jobs_in, IsFitNest}
 use Rattle.sched_api.specs.declared.hearing.Told.{Told}
-use Rattle.work_agenda.specs.declared.agenda.TheConstants.{MOST_WISHES}
+use Rattle.sched_api.specs.declared.agenda.TheConstants.{MOST_WISHES}
 use Rattle.base_sched.specs.Oldest as base
 use Rattle.forkjoin_sched.specs.Pools as pools
 use Rattle.forkjoin_sched.specs.Pools.{PoolParts}

@@ -6,7 +6,7 @@ ghost use Rattle.array_tree.specs.Trees.{statement_of};
 ghost use Rattle.array_jobs.specs.Jobs.{JobParts, job_of};
 ghost use Rattle.join_book.specs.Books.{Filled, IsFull, HasFailed, marked_book};
 ghost use Rattle.step_eval.specs.Nests.{NestedParts, nested_of, nested_writes, phases_of};
-ghost use Rattle.machine_accounts.specs.Machines.{IsFreshJob};
+ghost use Rattle.job_machines.specs.Machines.{IsFreshJob};
 ghost use Rattle.forkjoin_sched.specs.declared.work.PoolWork.TheVariants.{Begin};
 ghost use Rattle.hart_work.specs.Tasks.{HasNext, HasAccount};
 ghost use Rattle.hart_work.specs.Accounts.{HasServing};

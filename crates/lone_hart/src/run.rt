@@ -9,7 +9,7 @@ ghost use Rattle.transfer_table.specs.Journal.{IsComplete};
 ghost use Rattle.array_jobs.specs.Jobs.{job_of};
 ghost use Rattle.array_jobs.specs.Bodies.{body_of};
 ghost use Rattle.array_jobs.specs.PieceParts.{piece_of_job};
-ghost use Rattle.machine_accounts.specs.Machines.{IsRunJob};
+ghost use Rattle.job_machines.specs.Machines.{IsRunJob};
 ghost use Rattle.site_steps.specs.Back.{IsSettled, IsBack};
 ghost use Rattle.lone_hart.specs.Journals.{entries_in, IsListed};
 

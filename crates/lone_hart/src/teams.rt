@@ -6,7 +6,7 @@ ghost use Rattle.array_tree.specs.Trees.{statement_of};
 ghost use Rattle.step_eval.specs.Shapes.{kind_of};
 ghost use Rattle.array_jobs.specs.Jobs.{JobParts, job_of};
 ghost use Rattle.step_eval.specs.Nests.{nested_of, IsFitNest};
-ghost use Rattle.machine_accounts.specs.Machines.{IsFreshJob, IsRunJob};
+ghost use Rattle.job_machines.specs.Machines.{IsFreshJob, IsRunJob};
 ghost use Rattle.loop_team.specs.Teams.{IsOver, AreJobsIn};
 ghost use Rattle.loop_team.specs.declared.work.TeamWork.TheVariants.{Begin};
 ghost use Rattle.hart_work.specs.Tasks.{HasNext, HasAccount};

@@ -2,9 +2,9 @@
 ghost use Rattle.std.specs.Prelude.{◌≡◌};
 ghost use Rattle.lone_hart.specs.Sites.{wishes_inside};
 
+use sched_api::MOST_WISHES;
 use site_counts::sites_in_statement;
 use step_eval::Nested;
-use work_agenda::MOST_WISHES;
 
 /// The greatest number of harts that a site can request: all but its home.
 const WISHES_PER_SITE: u64 = 15;

@@ -21,7 +21,7 @@ use Rattle.lithe_barrier.specs.declared.state.Arrival.{Arrival}
 use Rattle.lithe_barrier.specs.declared.state.Arrival.TheVariants.{Opened}
 use Rattle.sched_api.specs.declared.scheduler.Next.{Next}
 use Rattle.sched_api.specs.declared.scheduler.Next.TheVariants.{Run, Lend, Nothing}
-use Rattle.work_agenda.specs.Agenda.{AgendaParts, TakesNext, PutsReady}
+use Rattle.sched_api.specs.Agenda.{AgendaParts, TakesNext, PutsReady}
 use Rattle.step_eval.specs.Inside.Computed.{HasReached}
 use Rattle.step_eval.specs.Nests.{NestedTree, NestedParts, nested_of, phases_of, piece_trees, numbered, jobs_in, AreFitJobs, IsFitNest}
 use Rattle.step_eval.specs.Phases.{phase_writes, store_before}

@@ -13,8 +13,8 @@ use Rattle.lithe_barrier.specs.declared.state.Arrival.TheVariants.{Kept, Opened,
 use Rattle.sched_api.specs.Wishes.{wishes_after}
 use Rattle.sched_api.specs.declared.hearing.Told.{Told}
 use Rattle.sched_api.specs.declared.scheduler.Next.{Next}
-use Rattle.work_agenda.specs.declared.agenda.TheConstants.{MOST_WISHES}
-use Rattle.work_agenda.specs.Agenda.{AgendaParts, TakesNext, PutsReady, GivesReady, GivesUnbegun}
+use Rattle.sched_api.specs.declared.agenda.TheConstants.{MOST_WISHES}
+use Rattle.sched_api.specs.Agenda.{AgendaParts, TakesNext, PutsReady, GivesReady, GivesUnbegun}
 use Rattle.step_eval.specs.Inside.Computed.{HasReached}
 use Rattle.step_eval.specs.Nests.{NestedParts, nested_of, phases_of, jobs_in, IsFitNest}
 use Rattle.step_eval.specs.Phases.{phase_writes, store_before}

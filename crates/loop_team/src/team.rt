@@ -17,13 +17,12 @@ use crate::work::TeamWork;
 use array_eval::{MarkedStore, Overlay, Store};
 use array_jobs::{Job, Piece};
 use lithe_barrier::{Arrival, BarrierState};
-use sched_api::{Call, Hearing, Next, Scheduler, Told};
+use sched_api::{Agenda, Call, Hearing, MOST_WISHES, Next, Scheduler, Told};
 use std::alloc::{AllocError, Global};
 use std::collections::VecDeque;
 use std::marker::Model;
 use std::mem;
 use step_eval::{Nested, jobs_of};
-use work_agenda::{Agenda, MOST_WISHES};
 
 /// The receipt of a callback of a team.
 #[derive(Drop)]

@@ -1,7 +1,7 @@
 -- Parts of a plan are spans of its sites.
 use Rattle.std.proofs.Common.{◌≡◌, ℕ, zero, suc, ◌+◌, ◌-◌, ◌<◌, ◌≤◌, ◌⊎◌, List, [], ◌∷◌, ◌++◌, length, slice_index, sym, ap, ◌∙◌, arith, length-append, append-nil}
 use Rattle.transfer_table.specs.Plan.{Plan, IsSite, parent, site_count}
-use Rattle.site_accounts.proofs.Ends.{all_over_is_complete}
+use Rattle.transfer_table.proofs.AccountEnds.{all_over_is_complete}
 use Rattle.array_meaning.specs.Stores.{arrays_of}
 use Rattle.array_meaning.specs.Work.{first_store}
 use Rattle.array_meaning.specs.Plans.{plan_of, AreInside, AreOutside}

@@ -4,7 +4,7 @@ use Rattle.transfer_table.specs.Plan.{Plan, IsPlan, site_count}
 use Rattle.transfer_table.specs.Table.{TableState}
 use Rattle.transfer_table.specs.Journal.{Reaches, IsComplete, all_meant}
 use Rattle.transfer_table.specs.declared.entry.Entry.{Entry}
-use Rattle.site_accounts.specs.Accounts.{AreOverAs, IsSpan}
+use Rattle.transfer_table.specs.Accounts.{AreOverAs, IsSpan}
 use Rattle.array_tree.specs.Trees.{ProgramTree}
 use Rattle.array_meaning.specs.Plans.{plan_of, AreInside, AreOutside}
 use Rattle.array_meaning.specs.Choices.{has_no_site_under_if}

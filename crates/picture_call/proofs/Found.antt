@@ -6,8 +6,8 @@ use Rattle.journal_text.specs.Reading.{and_then}
 use Rattle.journal_text.specs.declared.fault.TextFault.{TextFault}
 use Rattle.run_audit.specs.declared.verdict.Verdict.{Verdict}
 use Rattle.run_audit.specs.declared.verdict.Verdict.TheVariants as verdict
-use Rattle.run_picture.specs.declared.picture.Form.{Form}
-use Rattle.run_picture.specs.Picture.{Pictured, picture_by}
+use Rattle.picture_call.specs.declared.picture.Form.{Form}
+use Rattle.picture_call.specs.Picture.{Pictured, picture_by}
 use Rattle.lithe_call.specs.Auditing.{found_in, status_by}
 use Rattle.lithe_call.specs.Output.{EndsWith}
 use Rattle.lithe_call.specs.Programs.{table_plan}

@@ -4,3 +4,5 @@ pub mod Found
 pub mod Refusing
 pub mod Showing
 pub mod LawsHold
+pub mod Turns
+pub mod Reading

@@ -6,7 +6,7 @@ use Rattle.command_words.specs.Form.{Given, form_of, number_in, options_of, valu
 use Rattle.command_words.specs.Parts.{harts_in}
 use Rattle.command_words.specs.declared.command.Command.{Command}
 use Rattle.command_words.specs.declared.command.Command.TheVariants as command
-use Rattle.run_picture.specs.declared.picture.Form.{Form}
+use Rattle.picture_call.specs.declared.picture.Form.{Form}
 use Rattle.picture_call.specs.declared.runner.Runner.{Runner}
 use Rattle.lithe_call.specs.Faults.{IsNoCommand}
 use Rattle.lithe_call.specs.declared.fault.Fault.{Fault}

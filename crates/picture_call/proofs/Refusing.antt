@@ -16,8 +16,8 @@ use Rattle.array_eval.specs.ArrayText.{array_text}
 use Rattle.journal_text.specs.Seen.{Reads}
 use Rattle.run_audit.specs.Audit.{audit_of}
 use Rattle.journal_picture.specs.declared.shape.Kind.{Kind}
-use Rattle.run_picture.specs.Picture.{Pictured, picture_of}
-use Rattle.run_picture.specs.declared.picture.Form.{Form}
+use Rattle.picture_call.specs.Picture.{Pictured, picture_of}
+use Rattle.picture_call.specs.declared.picture.Form.{Form}
 use Rattle.lithe_call.specs.Faults.{IsNoRun, PrintsUntallied, PrintsUnpiped}
 use Rattle.lithe_call.specs.Lines.{PrintsRefusal, PrintsText}
 use Rattle.lithe_call.specs.Programs.{table_plan}

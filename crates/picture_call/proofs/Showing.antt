@@ -4,8 +4,8 @@ use Rattle.std.proofs.lemmas.Option.{same_Some}
 use Rattle.outside_io.specs.Outside.{Rose, Appends}
 use Rattle.run_audit.specs.Parts.{most_audited}
 use Rattle.run_audit.specs.declared.verdict.Verdict.{Verdict}
-use Rattle.run_picture.specs.declared.picture.Form.{Form}
-use Rattle.run_picture.specs.Picture.{Pictured}
+use Rattle.picture_call.specs.declared.picture.Form.{Form}
+use Rattle.picture_call.specs.Picture.{Pictured}
 use Rattle.lithe_call.specs.Auditing.{status_by}
 use Rattle.lithe_call.specs.FaultOf.{status_of}
 use Rattle.lithe_call.specs.Served.{Outside}

@@ -5,3 +5,6 @@ pub mod Causes
 pub mod Texts
 pub mod Shown
 pub mod Laws
+pub mod Shapes
+pub mod Picture
+pub mod Seen

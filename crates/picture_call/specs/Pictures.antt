@@ -10,8 +10,8 @@ use Rattle.run_audit.specs.Parts.{most_audited}
 use Rattle.run_audit.specs.declared.verdict.Verdict.{Verdict}
 use Rattle.journal_picture.specs.declared.shape.Kind.{Kind}
 use Rattle.journal_picture.specs.Kinds.{pipe, team}
-use Rattle.run_picture.specs.declared.picture.Form.{Form}
-use Rattle.run_picture.specs.Picture.{Pictured, picture_of}
+use Rattle.picture_call.specs.declared.picture.Form.{Form}
+use Rattle.picture_call.specs.Picture.{Pictured, picture_of}
 use Rattle.lithe_call.specs.declared.status.Status.{Status}
 use Rattle.lithe_call.specs.Auditing.{HasParts, found_in, status_by}
 use Rattle.lithe_call.specs.Programs.{table_plan}

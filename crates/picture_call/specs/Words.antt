@@ -3,8 +3,8 @@ use Rattle.std.specs.Prelude.{ℕ, ◌||◌, Bool, if◌then◌else◌, List, []
 use Rattle.std.specs.Option.{option_map, option_and_then}
 use Rattle.std.specs.Str.{bytes_eq}
 use Rattle.command_words.specs.Form.{Given, options_of, are_these, value_of, harts_alone, harts_given}
-use Rattle.run_picture.specs.declared.picture.Form.{Form}
-use Rattle.run_picture.specs.declared.picture.Form.TheVariants.{Text, Svg}
+use Rattle.picture_call.specs.declared.picture.Form.{Form}
+use Rattle.picture_call.specs.declared.picture.Form.TheVariants.{Text, Svg}
 use Rattle.picture_call.specs.declared.runner.Runner.{Runner}
 use Rattle.picture_call.specs.declared.runner.Runner.TheVariants.{Run, Tally, Pipe}
 

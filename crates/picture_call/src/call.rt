@@ -12,11 +12,11 @@ ghost use Rattle.picture_call.specs.Words.{parsed_run};
 
 use crate::drawing::drawn;
 use crate::parsing::parsed;
+use crate::picture::Picture;
 use crate::text::{fault_text, own_text};
 use lithe_call::{Fault, MOST_AUDITED, Status, read_all, write_all};
 use outside_io::{Sink, Source};
 use run_audit::Verdict;
-use run_picture::Picture;
 use std::alloc::Global;
 
 /// Serves the words: reads a program, a line `%%` and an output of its run, and writes a picture of the output's journal, or

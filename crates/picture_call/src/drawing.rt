@@ -5,13 +5,14 @@ ghost use Rattle.array_meaning.specs.Plans.{plan_of};
 ghost use Rattle.array_meaning.specs.Stores.{AreSized, arrays_of};
 ghost use Rattle.array_tree.specs.Trees.{declarations_of, program_of};
 ghost use Rattle.run_audit.specs.Parts.{most_audited};
-ghost use Rattle.run_picture.specs.Picture.{picture_of};
-ghost use Rattle.run_picture.specs.Seen.{picture_seen};
+ghost use Rattle.picture_call.specs.Picture.{picture_of};
+ghost use Rattle.picture_call.specs.Seen.{picture_seen};
 ghost use Rattle.lithe_call.specs.Programs.{table_plan};
 ghost use Rattle.picture_call.specs.Causes.{HasNoPicture, HaveNoPicture, ReportsNoOutput, ReportsNoPicture};
 ghost use Rattle.picture_call.specs.Pictures.{AreDrawn, HasPicture, IsRunBy, teams_of};
 
 use crate::parsing::Wanted;
+use crate::picture::{Form, Picture, picture_of};
 use crate::runner::Runner;
 use array_lang::parse;
 use array_tree::Program;
@@ -20,7 +21,6 @@ use journal_picture::Kind;
 use lithe_call::{Fault, MOST_BYTES, crossing_fault, refusal, syntax_fault, text_fault, with_rows};
 use pipe_walk::pipe_check;
 use run_audit::parts_of;
-use run_picture::{Form, Picture, picture_of};
 use std::alloc::Global;
 use transfer_table::Plan;
 

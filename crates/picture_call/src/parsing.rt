@@ -4,9 +4,9 @@ ghost use Rattle.picture_call.specs.Causes.{IsUnparsed};
 ghost use Rattle.picture_call.specs.Words.{parsed_form, form_named, parsed_run, runner_named};
 
 use crate::options::values;
+use crate::picture::Form;
 use crate::runner::Runner;
 use lithe_call::{Fault, harts, parsed_command};
-use run_picture::Form;
 use std::alloc::{AllocError, Global};
 
 /// What the words request: a picture of this form, of an output of this command on so many harts, 1 to 16.

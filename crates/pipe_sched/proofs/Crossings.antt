@@ -9,7 +9,7 @@ use Rattle.array_jobs.specs.contracts.job.Job as Job
 use Rattle.contexts.specs.contracts.context.Paused as Paused
 use Rattle.step_eval.specs.contracts.machine.StepMachine as StepMachine
 use Rattle.step_eval.specs.contracts.nested.Nested as Nested
-use Rattle.work_agenda.specs.contracts.agenda.Agenda as Agenda
+use Rattle.sched_api.specs.contracts.agenda.Agenda as Agenda
 use Rattle.pipe_sched.specs.contracts.slot.Slot as Slot
 use Rattle.pipe_sched.specs.contracts.state.PipeState as PipeState
 use Rattle.pipe_sched.specs.contracts.work.PipeWork as PipeWork

@@ -3,7 +3,7 @@ use Rattle.std.proofs.Common.{◌≡◌, inl, inr, [], Some, None, ap, ◌∙◌
 use Rattle.array_jobs.specs.Jobs.{JobParts}
 use Rattle.sched_api.specs.declared.scheduler.Next.{Next}
 use Rattle.sched_api.specs.declared.scheduler.Next.TheVariants.{Run, Lend, Nothing}
-use Rattle.work_agenda.specs.Agenda.{AgendaParts, TakesNext, GivesReady}
+use Rattle.sched_api.specs.Agenda.{AgendaParts, TakesNext, GivesReady}
 use Rattle.pipe_sched.specs.declared.work.PipeWork.{PipeWork}
 use Rattle.pipe_sched.specs.declared.work.PipeWork.TheVariants.{Begin}
 use Rattle.pipe_sched.specs.Slots.{PipeParts}

@@ -4,8 +4,8 @@ use Rattle.sched_api.specs.Wishes.{wishes_after}
 use Rattle.sched_api.specs.declared.hearing.Told.{Told}
 use Rattle.sched_api.specs.declared.scheduler.Next.{Next}
 use Rattle.sched_api.specs.declared.scheduler.Next.TheVariants.{Run, Lend, Nothing}
-use Rattle.work_agenda.specs.declared.agenda.TheConstants.{MOST_WISHES}
-use Rattle.work_agenda.specs.Agenda.{AgendaParts, TakesReady, TakesWish, IsIdle, PutsReady}
+use Rattle.sched_api.specs.declared.agenda.TheConstants.{MOST_WISHES}
+use Rattle.sched_api.specs.Agenda.{AgendaParts, TakesReady, TakesWish, IsIdle, PutsReady}
 use Rattle.step_eval.specs.Nests.{NestedParts}
 use Rattle.pipe_sched.specs.declared.work.PipeWork.{PipeWork}
 use Rattle.pipe_sched.specs.declared.work.PipeWork.TheVariants.{Begin, Ready}

@@ -15,12 +15,11 @@ use crate::work::PipeWork;
 use array_eval::Overlay;
 use array_jobs::Piece;
 use join_book::Deposit;
-use sched_api::{Call, Hearing, Next, Scheduler, Told};
+use sched_api::{Agenda, Call, Hearing, MOST_WISHES, Next, Scheduler, Told};
 use std::alloc::{AllocError, Global};
 use std::collections::VecDeque;
 use std::marker::Model;
 use step_eval::Nested;
-use work_agenda::{Agenda, MOST_WISHES};
 
 /// The receipt of a callback of a pipe.
 #[derive(Drop)]

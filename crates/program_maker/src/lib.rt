@@ -1,5 +1,5 @@
 //! Generates a large program from a seed: a stencil over a square grid whose edges meet, with pools inside teams inside a pool.
-//! `specs/Made.antt` defines the program. `maker_tests` has examples.
+//! `specs/Made.antt` defines the program. `command_tests` has examples.
 #![tactic(auto)]
 
 mod build;

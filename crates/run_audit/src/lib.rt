@@ -1,7 +1,7 @@
 //! The audit of a run: from a program and an output of it to a verdict. The output may come from any implementation.
 //!
 //! `lithe audit` calls it, and a picture has its verdict. Begin with `audit` in `auditing.rt` and `audit_of` in
-//! `specs/Audit.antt`; the tests of `audit_tests` audit outputs that are right, differ, and are illegal.
+//! `specs/Audit.antt`; the tests of `command_tests` audit outputs that are right, differ, and are illegal.
 #![tactic(auto)]
 
 mod auditing;

@@ -1,2 +1,3 @@
 pub mod Calls
 pub mod Wishes
+pub mod Agenda

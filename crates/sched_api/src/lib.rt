@@ -4,15 +4,20 @@
 //! at a mutex. Its `enter` returns the next action of a hart that comes to it. Of the six calls in `primitives.rt`, five make
 //! the port's transfer and the callback that belongs to it; `sched_reenter` only calls `enter`.
 //!
+//! For authors of schedulers, `Wishes` keeps the children's open requests, and `Agenda` what a scheduler has for the harts that
+//! come to it, in the order in which the schedulers of constructs hand it out.
+//!
 //! Begin with the trait `Scheduler` in `scheduler.rt`. `base_sched` and `turn_sched` are schedulers of this interface, and
-//! `src/tests.rt` has an example.
+//! `src/tests.rt` and `src/agenda_tests.rt` have examples.
 #![tactic(auto)]
 
+mod agenda;
 mod hearing;
 mod primitives;
 mod scheduler;
 mod wishes;
 
+pub use agenda::{Agenda, MOST_WISHES};
 pub use hearing::{Call, Hearing, Told};
 pub use primitives::{
     sched_enter, sched_reenter, sched_register, sched_request, sched_unregister, sched_yield,
@@ -20,5 +25,7 @@ pub use primitives::{
 pub use scheduler::{Lent, Next, Scheduler};
 pub use wishes::Wishes;
 
+#[cfg(test)]
+mod agenda_tests;
 #[cfg(test)]
 mod tests;

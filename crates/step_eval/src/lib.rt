@@ -1,7 +1,7 @@
 //! Jobs that run a step at a time, by machines that any hart can pause and pass on.
 //!
 //! A machine hands out the constructs that it comes to; `jobs_of` cuts a construct into jobs, and `compute` runs one in place.
-//! Harts use machines through `job_machines`. Begin with `StepMachine` in `machine.rt`; the tests of `job_tests` step machines.
+//! Harts use machines through `job_machines`. Begin with `StepMachine` in `machine.rt`; the tests of `piece_tests` step machines.
 #![tactic(auto)]
 
 mod computing;

@@ -20,3 +20,10 @@ pub mod Makers
 pub mod Meant
 pub mod Held
 pub mod LawsHold
+pub mod Algebra
+pub mod Touches
+pub mod AccountEnds
+pub mod Spans
+pub mod Ways
+pub mod GuestCounts
+pub mod Changes

@@ -7,3 +7,6 @@ pub mod Entry
 pub mod Journal
 pub mod Allowed
 pub mod Laws
+pub mod Accounts
+pub mod AccountLaws
+pub mod Guests

@@ -1,7 +1,7 @@
 //! A guest of a site that is the home of a site below it: it counts as a guest of the upper site until it yields.
 ghost use Rattle.std.specs.Prelude.{◌≡◌, ◌<◌, ◌-◌, [], ◌∷◌, true, false};
 ghost use Rattle.hart_port.specs.PortView.{is_in};
-ghost use Rattle.board_words.specs.Words.{width};
+ghost use Rattle.board_rule.specs.Encodings.{width};
 ghost use Rattle.board_rule.specs.Views.{fresh_view};
 ghost use Rattle.wide_board.specs.Of.{IsOf};
 

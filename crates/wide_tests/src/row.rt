@@ -1,7 +1,7 @@
 //! Two of five harts at one site: five entries. After each call the words are compared.
 ghost use Rattle.std.specs.Prelude.{◌≡◌, ◌<◌, ◌≤◌, ◌-◌, [], ◌∷◌, true, false};
 ghost use Rattle.hart_port.specs.PortView.{is_in};
-ghost use Rattle.board_words.specs.Words.{width};
+ghost use Rattle.board_rule.specs.Encodings.{width};
 ghost use Rattle.wide_board.specs.Of.{IsOf};
 ghost use Rattle.board_rule.specs.Views.{fresh_view};
 

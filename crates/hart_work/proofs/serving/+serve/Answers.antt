@@ -5,8 +5,8 @@ use Rattle.transfer_table.specs.Plan.{IsSite, IsPlan, parent, Plan}
 use Rattle.hart_port.specs.PortView.{PortView, registered}
 use Rattle.transfer_table.specs.declared.entry.Entry.{Entry}
 use Rattle.transfer_table.specs.declared.entry.Entry.TheVariants.{Unregister}
-use Rattle.site_accounts.specs.Accounts.{IsSpan, AreFresh}
-use Rattle.site_accounts.specs.Laws.{IsSkippedSpan}
+use Rattle.transfer_table.specs.Accounts.{IsSpan, AreFresh}
+use Rattle.transfer_table.specs.AccountLaws.{IsSkippedSpan}
 use Rattle.site_steps.specs.Back.{IsBack}
 use Rattle.hart_work.specs.Accounts.{WhereAlone}
 use Rattle.hart_work.proofs.Served.{at_back, back_at, begun, serves_first, at_ok, on_err, on_ok}

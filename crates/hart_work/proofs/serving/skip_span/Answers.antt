@@ -7,8 +7,8 @@ use Rattle.transfer_table.specs.declared.entry.Entry.{Entry}
 use Rattle.transfer_table.specs.declared.entry.Entry.TheVariants.{Skip}
 use Rattle.hart_port.specs.PortView.{PortView}
 use Rattle.site_steps.specs.Skips.{IsChildBetween}
-use Rattle.site_accounts.specs.Laws.{IsSkippedSpan}
-use Rattle.site_accounts.proofs.Spans.{fresh_spans_are_skipped}
+use Rattle.transfer_table.specs.AccountLaws.{IsSkippedSpan}
+use Rattle.transfer_table.proofs.Spans.{fresh_spans_are_skipped}
 use Rattle.hart_work.proofs.serving.skip_span.Goals as goal
 
 -- the same skips, by the number of sites

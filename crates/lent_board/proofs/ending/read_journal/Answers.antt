@@ -1,9 +1,9 @@
 use Rattle.std.proofs.Common.{rules, ◌≡◌, ◌<◌, ℕ, ◌++◌, ◌∷◌, [], sym, ap, ◌∙◌, arith, subst, List}
 use Rattle.std.specs.Mem.Slots.{slots_items}
 use Rattle.transfer_table.specs.declared.entry.Entry.{Entry}
-use Rattle.board_words.proofs.Lists.{take_next}
+use Rattle.board_rule.proofs.Lists.{take_next}
 use Rattle.board_rule.proofs.Ends.{place_of}
-use Rattle.board_words.proofs.Spelled.{spelled_once}
+use Rattle.board_rule.proofs.Spelled.{spelled_once}
 use Rattle.lent_board.proofs.ending.read_journal.Goals as goal
 
 pub entry_of-entry-requires : goal.entry_of-entry-requires

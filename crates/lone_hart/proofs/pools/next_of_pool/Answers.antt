@@ -1,7 +1,7 @@
 use Rattle.std.proofs.Common.{sym, ap, ◌∙◌, subst, inl, inr}
 use Rattle.sched_api.specs.declared.scheduler.Next.TheVariants.{Run}
 use Rattle.join_book.specs.Books.{BookParts}
-use Rattle.work_agenda.specs.Agenda.{TakesNext}
+use Rattle.sched_api.specs.Agenda.{TakesNext}
 use Rattle.forkjoin_sched.specs.declared.work.PoolWork.TheVariants.{Begin}
 use Rattle.lone_hart.specs.Accounts.{AllButOneCameBack}
 use Rattle.lone_hart.proofs.Accounts.{hand_out, full, none_to_go_on}

@@ -7,8 +7,8 @@ use Rattle.transfer_table.specs.Journal.{Reaches, IsComplete}
 use Rattle.transfer_table.specs.declared.entry.Entry.{Entry}
 use Rattle.transfer_table.proofs.Bounds.{few_entries}
 use Rattle.array_jobs.specs.Bodies.{body_of}
-use Rattle.machine_accounts.specs.Machines.{IsRunJob}
-use Rattle.machine_accounts.proofs.Jobs.{bodies_are_run}
+use Rattle.job_machines.specs.Machines.{IsRunJob}
+use Rattle.job_machines.proofs.Jobs.{bodies_are_run}
 use Rattle.lone_hart.proofs.run.run_alone.Goals as goal
 
 pub returns-clause-store : goal.returns-clause-store

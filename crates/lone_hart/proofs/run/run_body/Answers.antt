@@ -4,8 +4,8 @@ use Rattle.transfer_table.specs.Plan.{IsPlan}
 use Rattle.transfer_table.specs.declared.entry.Entry.{Entry}
 use Rattle.array_jobs.specs.Jobs.{job_of}
 use Rattle.array_jobs.specs.Bodies.{body_of}
-use Rattle.machine_accounts.specs.Machines.{IsFreshJob}
-use Rattle.machine_accounts.proofs.Jobs.{bodies_are_fresh}
+use Rattle.job_machines.specs.Machines.{IsFreshJob}
+use Rattle.job_machines.proofs.Jobs.{bodies_are_fresh}
 use Rattle.lone_hart.proofs.run.run_body.Goals as goal
 
 pub run_piece-requires-clause-fresh : goal.run_piece-requires-clause-fresh

@@ -2,7 +2,7 @@ use Rattle.std.proofs.Common.{◌≡◌, ◌⊎◌, false, sym, ap, ◌∙◌, s
 use Rattle.std.specs.Prelude.{IsTrue}
 use Rattle.sched_api.specs.declared.scheduler.Next.TheVariants.{Run}
 use Rattle.join_book.specs.Books.{BookParts}
-use Rattle.work_agenda.specs.Agenda.{TakesNext}
+use Rattle.sched_api.specs.Agenda.{TakesNext}
 use Rattle.loop_team.specs.declared.work.TeamWork.TheVariants.{Begin}
 use Rattle.loop_team.specs.Teams.{TeamParts, IsOver}
 use Rattle.lone_hart.specs.Accounts.{AllButOneCameBack}

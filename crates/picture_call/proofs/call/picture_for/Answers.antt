@@ -1,6 +1,6 @@
 use Rattle.std.proofs.Common.{List, ℕ, map, string_bytes, sym, subst}
 use Rattle.run_audit.specs.Parts.{most_audited}
-use Rattle.run_picture.specs.Seen.{picture_seen}
+use Rattle.picture_call.specs.Seen.{picture_seen}
 use Rattle.lithe_call.specs.Printing.{GivesWithin}
 use Rattle.picture_call.proofs.Showing.{no_picture_is_fault, picture_of_given}
 use Rattle.picture_call.proofs.call.picture_for.Goals as goal

@@ -3,7 +3,7 @@ use Rattle.array_meaning.specs.Entered.{entered_of}
 use Rattle.array_meaning.specs.Work.{final_store}
 use Rattle.array_eval.specs.ArrayText.{array_text}
 use Rattle.run_audit.specs.Audit.{audit_of}
-use Rattle.run_picture.specs.declared.picture.Picture.{Picture}
+use Rattle.picture_call.specs.declared.picture.Picture.{Picture}
 use Rattle.picture_call.proofs.Refusing.{read_found, text_no_output}
 use Rattle.picture_call.proofs.drawing.by_plan.Goals as goal
 

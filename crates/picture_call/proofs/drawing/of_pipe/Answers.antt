@@ -6,7 +6,7 @@ use Rattle.array_meaning.specs.Plans.{plan_of}
 use Rattle.transfer_table.specs.Plan.{Plan}
 use Rattle.phase_order.specs.Crossings.{HasNoCrossings}
 use Rattle.pipe_walk.specs.FirstCrossing.{IsFaultOf}
-use Rattle.run_picture.specs.Seen.{picture_seen}
+use Rattle.picture_call.specs.Seen.{picture_seen}
 use Rattle.lithe_call.proofs.Piping.{check_printed, crossing_printed}
 use Rattle.picture_call.specs.declared.runner.Runner.TheVariants as runner
 use Rattle.picture_call.specs.Pictures.{teams_of}

@@ -4,7 +4,7 @@ use Rattle.array_tree.specs.Trees.{program_of}
 use Rattle.array_meaning.proofs.InsideLemmas.{sized_in_range}
 use Rattle.array_meaning.specs.Plans.{plan_of}
 use Rattle.transfer_table.specs.Plan.{Plan}
-use Rattle.run_picture.specs.Seen.{picture_seen}
+use Rattle.picture_call.specs.Seen.{picture_seen}
 use Rattle.picture_call.specs.declared.runner.Runner.TheVariants as runner
 use Rattle.picture_call.specs.Pictures.{teams_of}
 use Rattle.picture_call.proofs.Refusing.{check_no_picture, plan_no_picture, plan_picture, plan_runs, right_plan}

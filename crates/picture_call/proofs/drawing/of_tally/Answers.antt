@@ -5,7 +5,7 @@ use Rattle.array_meaning.proofs.InsideLemmas.{sized_in_range}
 use Rattle.array_meaning.specs.Plans.{plan_of}
 use Rattle.disjoint_check.specs.Meaning.{IsAcceptedFor}
 use Rattle.transfer_table.specs.Plan.{Plan}
-use Rattle.run_picture.specs.Seen.{picture_seen}
+use Rattle.picture_call.specs.Seen.{picture_seen}
 use Rattle.lithe_call.proofs.Tallying.{rows_printed}
 use Rattle.picture_call.specs.declared.runner.Runner.TheVariants as runner
 use Rattle.picture_call.specs.Pictures.{teams_of}

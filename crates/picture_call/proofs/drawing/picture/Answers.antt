@@ -1,5 +1,5 @@
 use Rattle.array_tree.specs.Trees.{program_of}
-use Rattle.run_picture.specs.Seen.{picture_seen}
+use Rattle.picture_call.specs.Seen.{picture_seen}
 use Rattle.lithe_call.proofs.Causes.{syntax_line_printed}
 use Rattle.picture_call.specs.Causes.{AreRefused}
 use Rattle.picture_call.proofs.Refusing.{drawn_of, no_run_no_picture, not_drawn_of}

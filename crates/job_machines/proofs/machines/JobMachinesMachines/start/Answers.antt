@@ -1,7 +1,7 @@
 use Rattle.std.proofs.Common.{sym, subst}
 use Rattle.std.proofs.lemmas.Result.{IfOk-weaker}
-use Rattle.machine_accounts.specs.Machines.{IsGoing}
-use Rattle.machine_accounts.proofs.Going.{machines_begin}
+use Rattle.job_machines.specs.Machines.{IsGoing}
+use Rattle.job_machines.proofs.Going.{machines_begin}
 use Rattle.job_machines.proofs.machines.JobMachinesMachines.start.Goals as goal
 
 pub returns-clause-going : goal.returns-clause-going

@@ -2,7 +2,7 @@ use Rattle.std.proofs.Common.{subst}
 use Rattle.std.proofs.lemmas.Result.{IfOk-weaker}
 use Rattle.step_eval.specs.Nests.{nested_of}
 use Rattle.step_eval.specs.Machines.{HasMoved}
-use Rattle.machine_accounts.proofs.Going.{machines_go_on}
+use Rattle.job_machines.proofs.Going.{machines_go_on}
 use Rattle.job_machines.proofs.machines.JobMachinesMachines.supply.Goals as goal
 
 pub returns-clause-going : goal.returns-clause-going

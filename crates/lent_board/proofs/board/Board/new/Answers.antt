@@ -1,5 +1,5 @@
 use Rattle.std.proofs.Common.{rules, refl, ◌≡◌, ◌∙◌, replicate, ◌+◌, ◌*◌, ◌-◌}
-use Rattle.board_words.specs.Words.{width}
+use Rattle.board_rule.specs.Encodings.{width}
 use Rattle.board_rule.proofs.Opens.{opens}
 use Rattle.lent_board.proofs.board.Board.new.Goals as goal
 

@@ -1,7 +1,7 @@
 use Rattle.std.proofs.Common.{subst}
 use Rattle.array_jobs.specs.Jobs.{job_of}
 use Rattle.transfer_table.specs.Plan.{IsPlan}
-use Rattle.machine_accounts.specs.Machines.{IsFreshJob}
+use Rattle.job_machines.specs.Machines.{IsFreshJob}
 use Rattle.lone_hart.specs.Served.{is_serving, serves_pool, serves_team, LendsJob, LendsMember}
 use Rattle.lone_hart.proofs.ServedSites.{with_plan}
 use Rattle.lone_hart.proofs.lone.LoneSchedulersSchedulersJobMachines.next.Goals as goal

@@ -2,8 +2,8 @@ use Rattle.std.proofs.Common.{◌≡◌, ◌++◌, ◌∷◌, [], sym, subst, in
 use Rattle.transfer_table.specs.declared.entry.Entry.TheVariants.{Register}
 use Rattle.step_eval.specs.Nests.{NestedParts, nested_of}
 use Rattle.loop_team.specs.Teams.{AreJobsIn}
-use Rattle.machine_accounts.specs.Orders.{HasServed}
-use Rattle.machine_accounts.proofs.Orders.{serving_starts}
+use Rattle.job_machines.specs.Orders.{HasServed}
+use Rattle.job_machines.proofs.Orders.{serving_starts}
 use Rattle.job_machines.specs.Accounts.{is_fresh}
 use Rattle.lone_hart.specs.Served.{serves_pool, serves_team}
 use Rattle.lone_hart.proofs.lone.LoneSchedulersSchedulersJobMachines.open.Goals as goal

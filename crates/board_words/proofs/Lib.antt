@@ -1,9 +1,0 @@
-pub mod Lists
-pub mod Totals
-pub mod Places
-pub mod Rooms
-pub mod Sets
-pub mod Bits
-pub mod Spelled
-pub mod Shown
-pub mod Asked

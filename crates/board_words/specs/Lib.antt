@@ -1,5 +1,0 @@
-pub mod Words
-pub mod Counts
-pub mod Places
-pub mod Shown
-pub mod Sets

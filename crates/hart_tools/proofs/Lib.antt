@@ -1,2 +1,0 @@
-pub mod ClaimRows
-pub mod Stocks

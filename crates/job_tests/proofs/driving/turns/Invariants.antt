@@ -1,7 +1,0 @@
-use Rattle.std.proofs.Common.{◌≡◌, false}
-use Rattle.step_eval.specs.Machines.{is_awaiting}
-use Rattle.job_tests.proofs.driving.turns.Given as goal
-
--- The machine awaits nothing.
-abbrev pub invariant-loop : goal.invariant-loop
-invariant-loop l = is_awaiting l.machine.stage ≡ false

@@ -1,4 +1,0 @@
-pub mod Going
-pub mod Jobs
-pub mod Closing
-pub mod Orders

@@ -1,5 +1,0 @@
-use Rattle.machine_accounts.proofs.Jobs.{bodies_are_run}
-use Rattle.machine_accounts.proofs.bodies_are_run.Goals as goal
-
-pub returns : goal.returns
-returns c = bodies_are_run

@@ -1,3 +1,0 @@
-pub mod Machines
-pub mod Serving
-pub mod Orders

@@ -1,4 +1,0 @@
-pub mod ParentLemmas
-pub mod WorkLemmas
-pub mod JobLemmas
-pub mod NumberLemmas

@@ -1,7 +1,0 @@
-use Rattle.std.proofs.Common.{◌≡◌}
-use Rattle.run_summary.specs.Summary.{sum_of}
-use Rattle.run_summary.proofs.Sums.{with_rest}
-use Rattle.run_summary.proofs.summing.sum.Given as goal
-
-abbrev pub invariant-loop-cell : goal.invariant-loop-cell
-invariant-loop-cell l = with_rest l.sum l.cell l.store ≡ sum_of l.store

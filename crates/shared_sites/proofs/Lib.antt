@@ -1,0 +1,3 @@
+pub mod ClaimRows
+pub mod Stocks
+pub mod Crossings

@@ -1,0 +1,533 @@
+//! The tools of a hart for all sites: its deques, its seat, and the counters of each site.
+ghost use Rattle.std.specs.Prelude.{◌≡◌, ◌≢◌, ◌<◌, ◌≤◌, ◌+◌, ◌↔◌, ◌⊎◌, false, None, IsTrue, IfOk, IfSome, length, map, reverse, vec_len};
+ghost use Rattle.std.specs.Option.{ForSome};
+ghost use Rattle.deque_rows.specs.Rows.{IsLevel, home_log, row_room, identity as rows_identity};
+ghost use Rattle.claim_words.specs.Seats.{IsOf, identity as seat_identity};
+ghost use Rattle.shared_sites.specs.Places.{Fits, PoolFits, TeamFits, site_at};
+ghost use Rattle.shared_sites.specs.Hands.{HasTried, IsCompleted};
+ghost use Rattle.shared_sites.specs.Stocks.{AreTools};
+ghost use Rattle.shared_sites.specs.Told.{inside};
+ghost use Rattle.hart_port.specs.Count.{Rose};
+ghost use Rattle.hart_port.specs.PortView.{IsPortView, is_in, Registers, MayRequest, requested_by, yielded, MayUnregister, unregistered};
+ghost use Rattle.sched_api.specs.Calls.{RoseUnlessLent};
+ghost use Rattle.transfer_table.specs.Plan.{IsSite, parent as parent_of};
+
+use crate::claims::Claims;
+use crate::completed::Completed;
+use crate::hand::Hand;
+use crate::scheduler_ref::{PoolPlace, SchedulerRef, TeamPlace};
+use crate::shared_site::SharedSite;
+use array_jobs::{Job, Piece};
+use crossbeam_utils::Backoff;
+use deque_rows::HartRows;
+use forkjoin_sched::SharedPool;
+use hart_port::{Port, Taken};
+use loop_team::{ClaimSeat, SharedTeam};
+use pipe_sched::PipeHand;
+use sched_api::{
+    Lent, Next, sched_enter, sched_reenter, sched_register, sched_request, sched_unregister,
+    sched_yield,
+};
+use std::alloc::{AllocError, Global};
+use std::marker::Model;
+use std::sync::Wait;
+use step_eval::{Kind, Nested};
+
+/// The tools of a hart for all sites: its access to the deques, its seat of the claim table, and the counters of each site.
+///
+/// Contracts see the tools' identities, which no call changes.
+#[derive(Drop)]
+pub struct Tools<'t> {
+    rows: HartRows,
+    seat: ClaimSeat,
+    claims: &'t Claims,
+    harts: u8,
+}
+
+impl<'t> Model for Tools<'t> {
+    ghost use Rattle.std.specs.Prelude.{◌≡◌};
+    ghost use Rattle.claim_words.specs.Seats.{IsOf, identity as seat_identity};
+    ghost use Rattle.deque_rows.specs.Rows.{identity as rows_identity};
+    ghost use Rattle.shared_sites.specs.Identities.{ToolIdentities, kins_of};
+
+    ghost Value = { ToolIdentities };
+
+    ghost view = { λ t. kins_of t.rows t.seat };
+
+    ghost invariant = { λ t. IsOf t.claims.now.table (seat_identity t.seat)
+        × ((rows_identity t.rows).harts ≡ t.harts) };
+}
+
+impl<'t> Tools<'t> {
+    /// The tools that a hart is lent for a run of so many harts.
+    fn new(rows: HartRows, seat: ClaimSeat, claims: &'t Claims, harts: u8) -> Tools<'t>
+        requires harts { (rows_identity rows).harts ≡ harts }
+        requires of { IsOf claims.now.table (seat_identity seat) }
+        ensures rows { result.rows ≡ rows_identity rows }
+        ensures seat { result.seat ≡ seat_identity seat }
+    {
+        Tools {
+            rows,
+            seat,
+            claims,
+            harts,
+        }
+    }
+
+    /// The deques and the seat.
+    pub fn into_parts(self) -> (HartRows, ClaimSeat)
+        ensures rows { rows_identity result.0 ≡ self.entry.rows }
+        ensures seat { seat_identity result.1 ≡ self.entry.seat }
+    {
+        let Tools {
+            rows,
+            seat,
+            claims: _,
+            harts: _,
+        } = self;
+        (rows, seat)
+    }
+
+    /// The hart whose tools these are.
+    pub fn hart(&self) -> u8 {
+        self.rows.hart()
+    }
+
+    /// The level of a site.
+    pub fn level(&self, site: u16) -> u8 {
+        self.claims.level(site)
+    }
+
+    /// Whether all jobs of the construct have room in this hart's deque of this level. A `team` needs no room.
+    pub fn has_room(&self, level: u8, nested: &Nested<'_>) -> bool {
+        match nested.kind() {
+            Kind::Par => is_level(level) && has_room(&self.rows, level, nested.members() as usize),
+            Kind::Team => true,
+        }
+    }
+
+    /// A pool with its deque, if there is that deque.
+    fn pool_place<'b, 'p>(
+        &self,
+        pool: &'b SharedPool<'p>,
+        home: u8,
+        level: u8,
+    ) -> Option<PoolPlace<'b, 'p>>
+        ensures fits { ForSome result (λ place. PoolFits self.now.rows place) }
+        ensures pool { ForSome result (λ place. place.pool.now ≡ pool.now) }
+    {
+        if is_level(level) && home < self.harts {
+            Some(PoolPlace { pool, home, level })
+        } else {
+            None
+        }
+    }
+
+    /// A team with its claim counters, if the table has exactly those that it needs.
+    fn team_place<'b, 'p>(&self, team: &'b SharedTeam<'p>) -> Option<TeamPlace<'b, 'p>>
+    where
+        't: 'b,
+        ensures fits { ForSome result (λ place. TeamFits self.now.seat place) }
+        ensures team { ForSome result (λ place. place.team.now ≡ team.now) }
+    {
+        let claims = self.claims;
+        let row = claims.row_of(team.nested())?;
+        Some(TeamPlace {
+            team,
+            claims: &claims.table,
+            row,
+        })
+    }
+
+    /// The reference to a scheduler that harts share, at a site of this level.
+    pub fn scheduler_ref<'b, 'p>(
+        &self,
+        shared: &'b SharedSite<'p>,
+        level: u8,
+    ) -> SchedulerRef<'b, 'p>
+    where
+        't: 'b,
+        ensures { Fits self.now result }
+    {
+        match shared {
+            SharedSite::Pool { home, pool } => match self.pool_place(pool, *home, level) {
+                Some(place) => SchedulerRef::Pool(place),
+                None => SchedulerRef::NoScheduler,
+            },
+            SharedSite::Team(team) => match self.team_place(team) {
+                Some(place) => SchedulerRef::Team(place),
+                None => SchedulerRef::NoScheduler,
+            },
+            SharedSite::Pipe(pipe) => SchedulerRef::Pipe(pipe),
+            SharedSite::Alone => SchedulerRef::NoScheduler,
+        }
+    }
+
+    /// Registers the child, and makes the callback of the scheduler.
+    ///
+    /// # Errors
+    ///
+    /// `Taken` if the child was claimed before.
+    pub fn register<'b, P: Port, R: Wait + 'b>(
+        &mut self,
+        rt: &'b R,
+        scheduler_ref: SchedulerRef<'b, '_>,
+        port: &mut P,
+        hold: P::Hold,
+        child: u16,
+    ) -> Result<(), Taken>
+        requires fits { Fits self.old scheduler_ref }
+        requires known { IsSite (P.seen port.old).plan child }
+        requires child { (P.seen port.old).owner ≡ parent_of (P.seen port.old).plan child }
+        ensures does { Registers (P.seen port.old) child result (P.seen port.new) }
+        ensures kept { IsPortView (P.seen port.new) }
+        ensures tools { self.new ≡ self.old }
+    {
+        let mut hand = Hand::new(&mut self.rows, &mut self.seat, scheduler_ref);
+        sched_register(port, hold, &mut hand, rt, child)?;
+        Ok(())
+    }
+
+    /// Requests `count` harts for the child, and makes the callback of the scheduler.
+    pub fn request<'b, P: Port, R: Wait + 'b>(
+        &mut self,
+        rt: &'b R,
+        scheduler_ref: SchedulerRef<'b, '_>,
+        port: &mut P,
+        hold: P::Hold,
+        child: u16,
+        count: u8,
+    )
+        requires fits { Fits self.old scheduler_ref }
+        requires known { IsSite (P.seen port.old).plan child }
+        requires may { MayRequest (P.seen port.old) child count }
+        ensures does { P.seen port.new ≡ requested_by (P.seen port.old) child count }
+        ensures kept { IsPortView (P.seen port.new) }
+        ensures tools { self.new ≡ self.old }
+    {
+        let mut hand = Hand::new(&mut self.rows, &mut self.seat, scheduler_ref);
+        sched_request(port, hold, &mut hand, rt, child, count);
+    }
+
+    /// Unregisters the port's owner, and makes the callback of the scheduler.
+    pub fn unregister<'b, P: Port, R: Wait + 'b>(
+        &mut self,
+        rt: &'b R,
+        scheduler_ref: SchedulerRef<'b, '_>,
+        port: &mut P,
+        hold: P::Hold,
+    )
+        requires fits { Fits self.old scheduler_ref }
+        requires may { MayUnregister (P.seen port.old) }
+        ensures does { P.seen port.new ≡ unregistered (P.seen port.old) }
+        ensures kept { IsPortView (P.seen port.new) }
+        ensures tools { self.new ≡ self.old }
+    {
+        let mut hand = Hand::new(&mut self.rows, &mut self.seat, scheduler_ref);
+        sched_unregister(port, hold, &mut hand, rt);
+    }
+
+    /// Gives the hart back from the port's owner, and makes the callback of the scheduler.
+    pub fn give_back<'b, P: Port, R: Wait + 'b>(
+        &mut self,
+        rt: &'b R,
+        scheduler_ref: SchedulerRef<'b, '_>,
+        port: &mut P,
+        hold: P::Hold,
+    )
+        requires fits { Fits self.old scheduler_ref }
+        requires inside { 0 < (P.seen port.old).owner }
+        requires guest { is_in (P.seen port.old).homes (P.seen port.old).owner ≡ false }
+        ensures does { P.seen port.new ≡ yielded (P.seen port.old) }
+        ensures kept { IsPortView (P.seen port.new) }
+        ensures tools { self.new ≡ self.old }
+    {
+        let mut hand = Hand::new(&mut self.rows, &mut self.seat, scheduler_ref);
+        sched_yield(port, hold, &mut hand, rt);
+    }
+
+    /// Tries to enter the child until the hart is inside and gets its action, or the child wants no hart. If another hart moved
+    /// at the same time, it tries again. If the hart isn't inside, the port refused it, or the scheduler is of another site.
+    pub fn enter<'b, 'p, P: Port, R: Wait + 'b>(
+        &mut self,
+        rt: &'b R,
+        scheduler_ref: SchedulerRef<'b, 'p>,
+        port: &mut P,
+        hold: P::Hold,
+        child: u16,
+    ) -> Option<Next<Job<'p>>>
+        requires fits { Fits self.old scheduler_ref }
+        requires known { IsSite (P.seen port.old).plan child }
+        requires child { (P.seen port.old).owner ≡ parent_of (P.seen port.old).plan child }
+        ensures does { HasTried (P.seen port.old) child result (P.seen port.new) }
+        ensures count { P.refused port.old ≤ P.refused port.new }
+        ensures refused { result ≡ None → Rose (P.refused port.old) (P.refused port.new)
+            ⊎ (site_at scheduler_ref.entry ≢ child) }
+        ensures kept { IsPortView (P.seen port.new) }
+        ensures tools { self.new ≡ self.old }
+    {
+        // Why: reading the owner makes the port's invariant known.
+        let _ = port.owner();
+        if scheduler_ref.site() != child {
+            return None;
+        }
+        let backoff = Backoff::new();
+        'tries: for _ in rt.forever() {
+            match self.try_once(rt, scheduler_ref, port, hold) {
+                Lent::Inside(Next::Run(None)) => return Some(self.next(rt, scheduler_ref, false)),
+                Lent::Inside(Next::Run(Some(job))) => return Some(Next::Run(job)),
+                Lent::Inside(Next::Lend(child)) => return Some(Next::Lend(child)),
+                Lent::Inside(Next::Nothing) => return Some(Next::Nothing),
+                Lent::NotWanted { shown: _ } => return None,
+                Lent::Moved { read: _, found: _ } => backoff.spin(),
+            }
+        }
+        unreachable!()
+    }
+
+    // Tries once to enter the site of the scheduler.
+    fn try_once<'b, 'p, P: Port, R: Wait + 'b>(
+        &mut self,
+        rt: &'b R,
+        scheduler_ref: SchedulerRef<'b, 'p>,
+        port: &mut P,
+        hold: P::Hold,
+    ) -> Lent<Option<Job<'p>>>
+        requires fits { Fits self.old scheduler_ref }
+        requires known { IsSite (P.seen port.old).plan (site_at scheduler_ref) }
+        requires child { (P.seen port.old).owner
+            ≡ parent_of (P.seen port.old).plan (site_at scheduler_ref) }
+        ensures does { HasTried (P.seen port.old) (site_at scheduler_ref.entry) (inside result)
+            (P.seen port.new) }
+        ensures count { RoseUnlessLent result (P.refused port.old) (P.refused port.new) }
+        ensures kept { IsPortView (P.seen port.new) }
+        ensures tools { self.new ≡ self.old }
+    {
+        let mut hand = Hand::new(&mut self.rows, &mut self.seat, scheduler_ref);
+        sched_enter(port, hold, &mut hand, rt)
+    }
+
+    /// The next action of a hart that is inside. A guest gets `Nothing` if there is nothing to do. The hart at the base and the
+    /// home back off until there is something to do, or their work is done.
+    pub fn next<'b, 'p, R: Wait + 'b>(
+        &mut self,
+        rt: &'b R,
+        scheduler_ref: SchedulerRef<'b, 'p>,
+        is_home: bool,
+    ) -> Next<Job<'p>>
+        requires { Fits self.old scheduler_ref }
+        ensures { self.new ≡ self.old }
+    {
+        let is_guest = !is_home && !matches!(scheduler_ref, SchedulerRef::Base(_));
+        let backoff = Backoff::new();
+        'looks: for _ in rt.forever() {
+            if self.is_over(rt, scheduler_ref, is_home) {
+                return Next::Nothing;
+            }
+            match self.look(rt, scheduler_ref) {
+                Next::Run(Some(job)) => return Next::Run(job),
+                Next::Run(None) => {}
+                Next::Lend(child) => return Next::Lend(child),
+                Next::Nothing if is_guest => return Next::Nothing,
+                Next::Nothing => backoff.snooze(),
+            }
+        }
+        unreachable!()
+    }
+
+    // The action that the scheduler returns for a hart inside.
+    fn look<'b, 'p, R: Wait + 'b>(
+        &mut self,
+        rt: &'b R,
+        scheduler_ref: SchedulerRef<'b, 'p>,
+    ) -> Next<Option<Job<'p>>>
+        requires { Fits self.old scheduler_ref }
+        ensures { self.new ≡ self.old }
+    {
+        let mut hand = Hand::new(&mut self.rows, &mut self.seat, scheduler_ref);
+        sched_reenter(&mut hand, rt)
+    }
+
+    // Whether a hart has to leave although it might get more: the base if it is shut, and the home if the work of its site is
+    // done. It is checked before each task.
+    fn is_over<'b, R: Wait + 'b>(
+        &mut self,
+        rt: &'b R,
+        scheduler_ref: SchedulerRef<'b, '_>,
+        is_home: bool,
+    ) -> bool
+        requires { Fits self.old scheduler_ref }
+        ensures { self.new ≡ self.old }
+    {
+        match scheduler_ref {
+            SchedulerRef::Base(base) => base.is_shut(),
+            SchedulerRef::Pool(place) => is_home && place.hand::<R>(&mut self.rows).is_full(rt),
+            SchedulerRef::Team(place) => is_home && place.hand::<R>(&mut self.seat).is_over(rt),
+            SchedulerRef::Pipe(pipe) => is_home && PipeHand::<R>::new(pipe).is_full(rt),
+            SchedulerRef::NoScheduler => true,
+        }
+    }
+
+    /// Offers the pieces of the site to all harts. Those of a team and of a pipe are always offered.
+    pub fn offer<'b, R: Wait + 'b>(&mut self, rt: &'b R, scheduler_ref: SchedulerRef<'b, '_>)
+        requires { Fits self.old scheduler_ref }
+        ensures { self.new ≡ self.old }
+    {
+        if let SchedulerRef::Pool(place) = scheduler_ref {
+            offer_in(rt, place, &mut self.rows);
+        }
+    }
+
+    /// Gives the scheduler a piece that is done. A piece that is a stranger to the scheduler is dropped.
+    pub fn deposit<'b, 'p, R: Wait + 'b>(
+        &mut self,
+        rt: &'b R,
+        scheduler_ref: SchedulerRef<'b, 'p>,
+        piece: Piece<'p>,
+    )
+        requires { Fits self.old scheduler_ref }
+        ensures { self.new ≡ self.old }
+    {
+        match scheduler_ref {
+            SchedulerRef::Pool(place) => {
+                let _ = place.hand::<R>(&mut self.rows).deposit(rt, piece);
+            }
+            SchedulerRef::Team(place) => {
+                let _ = place.hand::<R>(&mut self.seat).arrive(rt, piece);
+            }
+            SchedulerRef::Pipe(pipe) => {
+                let _ = PipeHand::<R>::new(pipe).deposit(rt, piece);
+            }
+            _ => {}
+        }
+    }
+
+    /// Reports that an allocation failed for the piece of this phase at this index. A pool has one phase, and a team takes its
+    /// current phase.
+    pub fn fail<'b, R: Wait + 'b>(
+        &mut self,
+        rt: &'b R,
+        scheduler_ref: SchedulerRef<'b, '_>,
+        phase: u8,
+        place: u8,
+    )
+        requires { Fits self.old scheduler_ref }
+        ensures { self.new ≡ self.old }
+    {
+        match scheduler_ref {
+            SchedulerRef::Pool(pool) => pool.hand::<R>(&mut self.rows).fail(rt, place),
+            SchedulerRef::Team(team) => team.hand::<R>(&mut self.seat).fail(rt, place),
+            SchedulerRef::Pipe(pipe) => PipeHand::<R>::new(pipe).fail(rt, place, phase),
+            _ => {}
+        }
+    }
+
+    /// Whether a piece failed, so that sites inside may be missing. They may also be missing if the hart computes the construct
+    /// by itself: true for `NoScheduler`.
+    pub fn has_failed<'b, R: Wait + 'b>(
+        &mut self,
+        rt: &'b R,
+        scheduler_ref: SchedulerRef<'b, '_>,
+    ) -> bool
+        requires { Fits self.old scheduler_ref }
+        ensures { self.new ≡ self.old }
+    {
+        match scheduler_ref {
+            SchedulerRef::Base(_) => false,
+            SchedulerRef::Pool(place) => place.hand::<R>(&mut self.rows).has_failed(rt),
+            SchedulerRef::Team(place) => place.hand::<R>(&mut self.seat).has_failed(rt),
+            SchedulerRef::Pipe(pipe) => PipeHand::<R>::new(pipe).has_failed(rt),
+            SchedulerRef::NoScheduler => true,
+        }
+    }
+
+    /// Hands the scheduler out, once, if its work is done.
+    pub fn take_out<'b, 'p, R: Wait + 'b>(
+        &mut self,
+        rt: &'b R,
+        scheduler_ref: SchedulerRef<'b, 'p>,
+    ) -> Option<Completed<'p>>
+        requires { Fits self.old scheduler_ref }
+        ensures completed { IfSome result IsCompleted }
+        ensures tools { self.new ≡ self.old }
+    {
+        match scheduler_ref {
+            SchedulerRef::Pool(place) => {
+                let pool = place.hand::<R>(&mut self.rows).take_out(rt);
+                Some(Completed::Pool(pool?))
+            }
+            SchedulerRef::Team(place) => {
+                let team = place.hand::<R>(&mut self.seat).take_out(rt);
+                Some(Completed::Team(team?))
+            }
+            SchedulerRef::Pipe(pipe) => Some(Completed::Pipe(PipeHand::<R>::new(pipe).take_out(
+                rt,
+            )?)),
+            _ => None,
+        }
+    }
+}
+
+// Whether the level has deques.
+fn is_level(level: u8) -> bool
+    ensures { IsTrue result ↔ IsLevel level }
+{
+    1 <= level && level <= 3
+}
+
+/// The tools of all harts of a run, by their deques and their seats of the claim table. They are in reverse order: popping
+/// returns those of the first hart first.
+///
+/// # Errors
+///
+/// `AllocError` if an allocation fails.
+///
+/// # Memory
+///
+/// It allocates the list.
+pub fn tools_of<'x>(
+    alloc: Global,
+    words: &'x Claims,
+    mut rows: Vec<HartRows>,
+    mut claims: Vec<ClaimSeat>,
+) -> Result<Vec<Tools<'x>>, AllocError>
+    requires count { vec_len claims ≡ vec_len rows }
+    requires tools { AreTools words.now.table rows.items claims.items }
+    ensures rows { IfOk result
+        (λ tools. map (λ t. t.rows) (reverse tools.items) ≡ map rows_identity rows.items) }
+    ensures seats { IfOk result
+        (λ tools. map (λ t. t.seat) (reverse tools.items) ≡ map seat_identity claims.items) }
+{
+    let harts = rows.len() as u8;
+    let mut tools = Vec::with_capacity(alloc, rows.len())?;
+    while let Some(own) = rows.pop() {
+        let Some(seat) = claims.pop() else {
+            unreachable!()
+        };
+        tools.push(Tools::new(own, seat, words, harts))?;
+    }
+    Ok(tools)
+}
+
+/// Pushes the job indices of the pool onto the deque of this hart, if it is the home and the deque has room for all of them.
+pub(crate) fn offer_in<'b, 'p, R: Wait + 'b>(
+    rt: &'b R,
+    place: PoolPlace<'b, 'p>,
+    rows: &mut HartRows,
+)
+    requires { PoolFits (rows_identity rows.old) place }
+    ensures { rows_identity rows.new ≡ rows_identity rows.old }
+{
+    if place.home == rows.hart() && has_room(rows, place.level, place.pool.jobs().len()) {
+        place.hand(rows).offer(rt);
+    }
+}
+
+// Whether the hart's deque of this level has room for so many job indices.
+fn has_room(rows: &HartRows, level: u8, count: usize) -> bool
+    requires { IsLevel level }
+    ensures { IsTrue result
+        → count + length (home_log rows.now level).pushed ≤ row_room rows.now level }
+{
+    count <= rows.room(level) as usize
+}

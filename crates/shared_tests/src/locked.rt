@@ -1,0 +1,428 @@
+//! Harts that move by ports on one ledger under a lock.
+ghost use Rattle.std.specs.Prelude.{◌≡◌, ◌≤◌, ◌<◌, [], ◌∷◌, All, IfOk, length, map, vec_len};
+ghost use Rattle.transfer_table.specs.Plan.{IsHart};
+ghost use Rattle.claim_words.specs.Seats.{AreAll, identity};
+ghost use Rattle.hart_loop.specs.Harts.{StartsIn};
+
+use array_eval::Overlay;
+use array_jobs::{Job, Piece, body_job};
+use array_tree::Program;
+use base_sched::{Base, SharedBase};
+use deque_rows::rows;
+use disjoint_check::{Accepted, check};
+use hart_loop::{Hart, HartSchedulers, HartSite, TeamMode, work};
+use hart_port::{Ledger, LockedPort};
+use hart_work::{Schedulers, run_construct};
+use job_machines::JobMachines;
+use loop_team::ClaimSeat;
+use once_cell::race::OnceBox;
+use sample_programs::{
+    BOTH_BRANCHES, BOTH_PHASES, TWO_BRANCHES, TWO_PHASES, first_construct, parsed,
+};
+use shared_sites::{Claims, SharedSite, SiteCell, Tools, cells, lines, tools_of};
+use site_steps::{SiteTree, WaitingPort};
+use std::alloc::Global;
+use std::sync::{Mutex, Wait};
+use std::test::Fail;
+use std::thread;
+use std::thread::Threads;
+use transfer_table::{Plan, first_fault};
+
+// A hart in the base, by a port on the ledger.
+fn hart<'x, 'p: 'x, R: Threads + Wait + Sync>(
+    rt: &'x R,
+    alloc: Global,
+    lock: &'x Mutex<Ledger>,
+    plan: &'x Plan,
+    number: u8,
+    base: &'x SharedBase,
+    cells: &'x [OnceBox<SharedSite<'p>>],
+    tools: Tools<'x>,
+    job: Option<Job<'p>>,
+) -> Result<Hart<'x, 'p, WaitingPort<'x, LockedPort<'x, R>, R>, SharedSite<'p>>, Fail>
+    requires hart { IsHart plan.now number }
+    requires few { plan.now.harts ≤ 4 }
+    ensures { IfOk result (λ hart. StartsIn plan.now hart.port.port.view) }
+{
+    let port = WaitingPort::new(LockedPort::new(alloc, lock, plan, number)?, rt);
+    let schedulers = HartSchedulers::new(lines(alloc, cells)?, tools, TeamMode::Wait);
+    Ok(Hart {
+        port,
+        schedulers,
+        base,
+        job,
+        piece: None,
+    })
+}
+
+// The tools of the first hart that has none yet.
+fn next_tools<'x>(tools: &mut Vec<Tools<'x>>) -> Result<Tools<'x>, Fail> {
+    Ok(tools.pop().ok_or("too few tools")?)
+}
+
+// A hart for each of the plan's. The first has the job, and is last in the list.
+fn crew<'x, 'p: 'x, R: Threads + Wait + Sync>(
+    rt: &'x R,
+    alloc: Global,
+    lock: &'x Mutex<Ledger>,
+    plan: &'x Plan,
+    base: &'x SharedBase,
+    cells: &'x [OnceBox<SharedSite<'p>>],
+    mut tools: Vec<Tools<'x>>,
+    job: Job<'p>,
+) -> Result<Vec<Hart<'x, 'p, WaitingPort<'x, LockedPort<'x, R>, R>, SharedSite<'p>>>, Fail>
+    requires { plan.now.harts ≤ 4 }
+    ensures { IfOk result (λ harts.
+        All (λ hart. StartsIn plan.now hart.port.port.view) harts.items) }
+{
+    let first = next_tools(&mut tools)?;
+    let mut harts = Vec::with_capacity(alloc, usize::from(plan.harts()))?;
+    for number in 1..plan.harts() {
+        let own = next_tools(&mut tools)?;
+        harts.push(hart(rt, alloc, lock, plan, number, base, cells, own, None)?)?;
+    }
+    harts.push(hart(rt, alloc, lock, plan, 0, base, cells, first, Some(job))?)?;
+    Ok(harts)
+}
+
+// Runs each hart on a thread, the last of them on the current one.
+fn run_each<'x, 'p: 'x, R: Threads + Wait + Sync, F: Fn(u8, u16, u8, u8) + Sync>(
+    rt: &'x R,
+    alloc: Global,
+    tree: &SiteTree,
+    pass: &F,
+    harts: &mut [Hart<'x, 'p, WaitingPort<'x, LockedPort<'x, R>, R>, SharedSite<'p>>],
+)
+    requires callable { F.IsAlwaysCallable pass.now }
+    requires starts { All (λ hart. StartsIn tree.now hart.port.port.view) harts.old }
+{
+    // Why as many parts as harts: the harts of one part run one after another, and each waits for all others.
+    let parts = harts.len().max(1);
+    thread::for_each_mut(
+        rt,
+        harts,
+        parts,
+        &|_, hart| work(rt, alloc, tree, pass, rt, hart),
+    );
+}
+
+// The piece of the hart that is last in the list.
+fn last_piece<'x, 'p: 'x, R: Threads + Wait + Sync>(
+    harts: &mut [Hart<'x, 'p, WaitingPort<'x, LockedPort<'x, R>, R>, SharedSite<'p>>],
+) -> Option<Piece<'p>> {
+    harts.last_mut()?.piece.take()
+}
+
+// The writes of the program's body, by harts with locked ports.
+fn run_body<'x, 'p: 'x, R: Threads + Wait + Sync>(
+    rt: &'x R,
+    alloc: Global,
+    accepted: &'x Accepted<'p>,
+    lock: &'x Mutex<Ledger>,
+    base: &'x SharedBase,
+    cells: &'x [OnceBox<SharedSite<'p>>],
+    tools: Vec<Tools<'x>>,
+) -> Result<Piece<'p>, Fail>
+    requires { accepted.now.plan.harts ≤ 4 }
+{
+    let tree = SiteTree::new(alloc, accepted.plan())?;
+    let job = body_job(alloc, accepted.program())?;
+    let mut harts = crew(rt, alloc, lock, accepted.plan(), base, cells, tools, job)?;
+    run_each(rt, alloc, &tree, &|_, _, _, _| {}, harts.as_mut_slice());
+    Ok(last_piece(harts.as_mut_slice()).ok_or("want of memory")?)
+}
+
+// The tools of so many harts.
+fn all_tools<'x>(
+    alloc: Global,
+    words: &'x Claims,
+    claims: Vec<ClaimSeat>,
+    harts: u8,
+) -> Result<Vec<Tools<'x>>, Fail>
+    requires harts { (1 ≤ harts) × (harts ≤ 16) }
+    requires count { vec_len claims ≡ harts }
+    requires all { AreAll words.now.table (map identity claims.items) }
+{
+    Ok(tools_of(alloc, words, rows(alloc, harts)?, claims)?)
+}
+
+// Whether the program's body writes these cells.
+fn body_writes<'x, 'p: 'x, R: Threads + Wait + Sync>(
+    rt: &'x R,
+    alloc: Global,
+    accepted: &'x Accepted<'p>,
+    lock: &'x Mutex<Ledger>,
+    base: &'x SharedBase,
+    cells: &'x [OnceBox<SharedSite<'p>>],
+    harts: u8,
+    written: &[(u16, i64)],
+) -> Result<bool, Fail>
+    requires harts { (1 ≤ harts) × (harts ≤ 4) }
+    requires few { accepted.now.plan.harts ≤ 4 }
+{
+    let (words, claims) = Claims::new(alloc, accepted, harts)?;
+    let tools = all_tools(alloc, &words, claims, harts)?;
+    let piece = run_body(rt, alloc, accepted, lock, base, cells, tools)?;
+    Ok(piece.written.pairs() == written)
+}
+
+// Whether harts that share this ledger write these cells.
+fn harts_write<R: Threads + Wait + Sync>(
+    rt: &R,
+    alloc: Global,
+    accepted: &Accepted<'_>,
+    lock: &Mutex<Ledger>,
+    harts: u8,
+    written: &[(u16, i64)],
+) -> Result<bool, Fail>
+    requires harts { (1 ≤ harts) × (harts ≤ 4) }
+    requires few { accepted.now.plan.harts ≤ 4 }
+{
+    let base = SharedBase::new(Base::new(alloc, accepted.plan().sites())?);
+    let cells = cells(alloc, accepted.plan().sites())?;
+    body_writes(rt, alloc, accepted, lock, &base, &cells, harts, written)
+}
+
+// Whether the ledger is a complete journal of the plan.
+fn is_complete(alloc: Global, plan: &Plan, ledger: Ledger) -> Result<bool, Fail> {
+    let entries = ledger.into_entries();
+    if entries.as_slice().len() > 65_535 {
+        return Err(Fail::new("more entries than any plan allows"));
+    }
+    let all = vec![in alloc; true; plan.sites() as usize]?;
+    Ok(first_fault(alloc, plan, &all, entries.as_slice())?.is_none())
+}
+
+// Whether harts with locked ports write these cells, and their ledger is a complete journal.
+fn is_right<R: Threads + Wait + Sync>(
+    rt: &R,
+    alloc: Global,
+    program: &Program,
+    harts: u8,
+    written: &[(u16, i64)],
+) -> Result<bool, Fail>
+    requires { (1 ≤ harts) × (harts ≤ 4) }
+{
+    let accepted = check(alloc, program, harts)?;
+    let lock = Mutex::new(Ledger::new(alloc, accepted.plan())?);
+    let is_same = harts_write(rt, alloc, &accepted, &lock, harts, written)?;
+    let is_whole = is_complete(alloc, accepted.plan(), lock.into_inner())?;
+    Ok(is_same && is_whole)
+}
+
+#[test]
+fn harts_move_by_locked_ports(rt: HostRuntime) -> Result<(), Fail> {
+    let branches = parsed(rt.alloc(), TWO_BRANCHES)?;
+    assert!(rt; is_right(&rt, rt.alloc(), &branches, 1, &BOTH_BRANCHES)?);
+    assert!(rt; is_right(&rt, rt.alloc(), &branches, 2, &BOTH_BRANCHES)?);
+    let phases = parsed(rt.alloc(), TWO_PHASES)?;
+    assert!(rt; is_right(&rt, rt.alloc(), &phases, 2, &BOTH_PHASES)?);
+    assert!(rt; is_right(&rt, rt.alloc(), &phases, 4, &BOTH_PHASES)?);
+    Ok(())
+}
+
+// The tools of two harts.
+fn two_tools<'x>(
+    alloc: Global,
+    words: &'x Claims,
+    claims: Vec<ClaimSeat>,
+) -> Result<(Tools<'x>, Tools<'x>), Fail>
+    requires count { vec_len claims ≡ 2 }
+    requires all { AreAll words.now.table (map identity claims.items) }
+{
+    let mut tools = all_tools(alloc, words, claims, 2)?;
+    let first = next_tools(&mut tools)?;
+    Ok((first, next_tools(&mut tools)?))
+}
+
+// The first hart runs the complete body, without another hart.
+fn run_whole<'x, 'p: 'x, R: Threads + Wait + Sync>(
+    rt: &'x R,
+    alloc: Global,
+    accepted: &'x Accepted<'p>,
+    tree: &SiteTree,
+    lock: &'x Mutex<Ledger>,
+    base: &'x SharedBase,
+    cells: &'x [OnceBox<SharedSite<'p>>],
+    tools: Tools<'x>,
+) -> Result<(), Fail>
+    requires some { 0 < accepted.now.plan.harts }
+    requires few { accepted.now.plan.harts ≤ 4 }
+    requires tree { tree.now ≡ accepted.now.plan }
+{
+    let job = body_job(alloc, accepted.program())?;
+    let mut first = hart(
+        rt,
+        alloc,
+        lock,
+        accepted.plan(),
+        0,
+        base,
+        cells,
+        tools,
+        Some(job),
+    )?;
+    work(rt, alloc, tree, &|_, _, _, _| {}, rt, &mut first);
+    Ok(())
+}
+
+// The second hart's writes of the first construct, which it computes.
+fn run_first<'x, 'p: 'x, R: Threads + Wait + Sync>(
+    rt: &'x R,
+    alloc: Global,
+    program: &'p Program,
+    plan: &'x Plan,
+    tree: &SiteTree,
+    lock: &'x Mutex<Ledger>,
+    base: &'x SharedBase,
+    cells: &'x [OnceBox<SharedSite<'p>>],
+    tools: Tools<'x>,
+) -> Result<Overlay, Fail>
+    requires second { 1 < plan.now.harts }
+    requires few { plan.now.harts ≤ 4 }
+    requires tree { tree.now ≡ plan.now }
+{
+    let nested = first_construct(alloc, program)?;
+    let mut port = WaitingPort::new(LockedPort::new(alloc, lock, plan, 1)?, rt);
+    let mut schedulers = HartSchedulers::new(lines(alloc, cells)?, tools, TeamMode::Wait);
+    let mut around: HartSite<'x, 'p, SharedSite<'p>> = HartSite::base(base);
+    Ok(run_construct(
+        rt,
+        alloc,
+        tree,
+        &|_, _| {},
+        &mut port,
+        rt,
+        &mut schedulers,
+        &mut around,
+        nested,
+    )?)
+}
+
+// Whether a hart that reaches the first construct after its site was registered and unregistered writes both branches,
+// although the other hart has run the complete body.
+fn writes_late<'x, 'p: 'x, R: Threads + Wait + Sync>(
+    rt: &'x R,
+    alloc: Global,
+    program: &'p Program,
+    accepted: &'x Accepted<'p>,
+    lock: &'x Mutex<Ledger>,
+    base: &'x SharedBase,
+    cells: &'x [OnceBox<SharedSite<'p>>],
+    tools: (Tools<'x>, Tools<'x>),
+) -> Result<bool, Fail>
+    requires second { 1 < accepted.now.plan.harts }
+    requires few { accepted.now.plan.harts ≤ 4 }
+{
+    let plan = accepted.plan();
+    let tree = SiteTree::new(alloc, plan)?;
+    let (own, others) = tools;
+    run_whole(rt, alloc, accepted, &tree, lock, base, cells, own)?;
+    let written = run_first(rt, alloc, program, plan, &tree, lock, base, cells, others)?;
+    Ok(written.pairs() == BOTH_BRANCHES.as_slice())
+}
+
+// The same with tools of a run of two harts.
+fn is_computed<R: Threads + Wait + Sync>(
+    rt: &R,
+    alloc: Global,
+    program: &Program,
+    accepted: &Accepted<'_>,
+    lock: &Mutex<Ledger>,
+) -> Result<bool, Fail>
+    requires { accepted.now.plan.harts ≡ 2 }
+{
+    let base = SharedBase::new(Base::new(alloc, accepted.plan().sites())?);
+    let cells = cells(alloc, accepted.plan().sites())?;
+    let (words, claims) = Claims::new(alloc, accepted, 2)?;
+    let tools = two_tools(alloc, &words, claims)?;
+    writes_late(rt, alloc, program, accepted, lock, &base, &cells, tools)
+}
+
+#[test]
+fn a_construct_whose_site_is_gone_is_computed(rt: HostRuntime) -> Result<(), Fail> {
+    let program = parsed(rt.alloc(), TWO_BRANCHES)?;
+    let accepted = check(rt.alloc(), &program, 2)?;
+    let lock = Mutex::new(Ledger::new(rt.alloc(), accepted.plan())?);
+    assert!(rt; is_computed(&rt, rt.alloc(), &program, &accepted, &lock)?);
+    Ok(())
+}
+
+// The home opens the first construct by these lines.
+fn open_first<'x, 'p: 'x, R: Wait>(
+    _rt: &'x R,
+    alloc: Global,
+    program: &'p Program,
+    lines: Vec<SiteCell<'x, SharedSite<'p>>>,
+    tools: Tools<'x>,
+) -> Result<(), Fail> {
+    let nested = first_construct(alloc, program)?;
+    let mut home = HartSchedulers::new(lines, tools, TeamMode::Wait);
+    let _opened = Schedulers::<R, JobMachines<'p>>::open(&mut home, alloc, &nested)?;
+    Ok(())
+}
+
+// Whether the second hart enters site 2 by the scheduler in its cell.
+fn enters_second<'x, 'p: 'x, R: Threads + Wait + Sync>(
+    rt: &'x R,
+    alloc: Global,
+    plan: &'x Plan,
+    lock: &'x Mutex<Ledger>,
+    cells: &'x [OnceBox<SharedSite<'p>>],
+    tools: Tools<'x>,
+) -> Result<bool, Fail>
+    requires plan { plan.now ≡ record { harts = 2; parents = 0 ∷ 0 ∷ [] } }
+    requires cells { length cells.now ≡ 3 }
+{
+    let mut port = WaitingPort::new(LockedPort::new(alloc, lock, plan, 1)?, rt);
+    let mut schedulers = HartSchedulers::new(lines(alloc, cells)?, tools, TeamMode::Wait);
+    match schedulers.find(rt, 2) {
+        Some(mut found) => Ok(schedulers.enter(rt, &mut port, rt, &mut found, 2).is_some()),
+        None => Err(Fail::new("nothing is found")),
+    }
+}
+
+// Whether a hart enters site 2 if its cell has the pool of site 1.
+fn enters_by_another<'x, 'p: 'x, R: Threads + Wait + Sync>(
+    rt: &'x R,
+    alloc: Global,
+    program: &'p Program,
+    plan: &'x Plan,
+    lock: &'x Mutex<Ledger>,
+    cells: &'x [OnceBox<SharedSite<'p>>],
+    tools: (Tools<'x>, Tools<'x>),
+) -> Result<bool, Fail>
+    requires plan { plan.now ≡ record { harts = 2; parents = 0 ∷ 0 ∷ [] } }
+    requires cells { length cells.now ≡ 3 }
+{
+    let (own, others) = tools;
+    let mut turned = lines(alloc, cells)?;
+    turned.swap(1, 2);
+    open_first(rt, alloc, program, turned, own)?;
+    enters_second(rt, alloc, plan, lock, cells, others)
+}
+
+// The same with tools of a run of two harts.
+fn is_entered<R: Threads + Wait + Sync>(
+    rt: &R,
+    alloc: Global,
+    program: &Program,
+    plan: &Plan,
+    lock: &Mutex<Ledger>,
+) -> Result<bool, Fail>
+    requires { plan.now ≡ record { harts = 2; parents = 0 ∷ 0 ∷ [] } }
+{
+    let cells = cells(alloc, 2)?;
+    let (words, claims) = Claims::new(alloc, &check(alloc, program, 2)?, 2)?;
+    let tools = two_tools(alloc, &words, claims)?;
+    enters_by_another(rt, alloc, program, plan, lock, &cells, tools)
+}
+
+#[test]
+fn a_site_is_not_entered_by_the_pool_of_another(rt: HostRuntime) -> Result<(), Fail> {
+    let program = parsed(rt.alloc(), TWO_BRANCHES)?;
+    let plan = Plan::new(rt.alloc(), 2, &[0, 0])?;
+    let lock = Mutex::new(Ledger::new(rt.alloc(), &plan)?);
+    assert!(rt; !is_entered(&rt, rt.alloc(), &program, &plan, &lock)?);
+    Ok(())
+}

@@ -1,4 +1,0 @@
-pub mod Algebra
-pub mod Touches
-pub mod Ends
-pub mod Spans

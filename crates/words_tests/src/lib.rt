@@ -1,5 +1,0 @@
-//! Tests of the words of the command line, by public calls alone.
-#![tactic(auto)]
-
-#[cfg(test)]
-mod forms;
