@@ -4,22 +4,22 @@ use mathlib.Core.Option.{some}
 use lib.ListN.{get_elem?}
 use Rattle.atomic_table.specs.Table.{Splits, Joins, Seen, Final}
 use Rattle.atomic_table.proofs.Lists.{at_set}
-use Rattle.claim_words.specs.declared.sight.Sight.{Sight}
+use Rattle.claim_words.specs.declared.seat_view.SeatView.{SeatView}
 use Rattle.claim_words.specs.Claims.{weigh, is_claim, is_row, claims, pasts, past_word, once, Keeps, ClaimsStand, fresh, joined}
 use Rattle.claim_words.specs.declared.seat.ClaimSeat.{ClaimSeat}
 use Rattle.claim_words.specs.declared.table.ClaimTable.{ClaimTable}
-use Rattle.claim_words.specs.Seats.{identity, sight, IsOf, AreOf, parts_of, claims_of, reads_past}
+use Rattle.claim_words.specs.Seats.{identity, seat_view, IsOf, AreOf, parts_of, claims_of, reads_past}
 use Rattle.claim_words.proofs.Sums.{weigh-append, total_set, each_set, split_lt, total_snoc, each_snoc, total_whole}
 
-pub parts-snoc : (xs : List ClaimSeat) (s : ClaimSeat) → parts_of (map identity (xs ++ s ∷ [])) ≡ (sight s).parts + parts_of (map identity xs)
+pub parts-snoc : (xs : List ClaimSeat) (s : ClaimSeat) → parts_of (map identity (xs ++ s ∷ [])) ≡ (seat_view s).parts + parts_of (map identity xs)
 parts-snoc [] s = refl
 parts-snoc (x ∷ xs) s = let rest = parts-snoc xs s in omega (arith, rest)
 
-pub claims-snoc : (r m : ℕ) (xs : List ClaimSeat) (s : ClaimSeat) → claims_of r m (xs ++ s ∷ []) ≡ claims r m (sight s) + claims_of r m xs
+pub claims-snoc : (r m : ℕ) (xs : List ClaimSeat) (s : ClaimSeat) → claims_of r m (xs ++ s ∷ []) ≡ claims r m (seat_view s) + claims_of r m xs
 claims-snoc r m [] s = refl
 claims-snoc r m (x ∷ xs) s = let rest = claims-snoc r m xs s in omega (arith, rest)
 
-pub reads-snoc : (words : List ℕ) (xs : List ClaimSeat) (s : ClaimSeat) → reads_past words (xs ++ s ∷ []) ≡ weigh (past_word words) (sight s).looks + reads_past words xs
+pub reads-snoc : (words : List ℕ) (xs : List ClaimSeat) (s : ClaimSeat) → reads_past words (xs ++ s ∷ []) ≡ weigh (past_word words) (seat_view s).looks + reads_past words xs
 reads-snoc words [] s = refl
 reads-snoc words (x ∷ xs) s = let rest = reads-snoc words xs s in omega (arith, rest)
 
@@ -32,16 +32,16 @@ snoc-of t [] s are is = (is, tt)
 snoc-of t (x ∷ xs) s are is = (are.0, snoc-of t xs s are.1 is)
 
 -- A new seat that gives a part away stays new.
-pub cut-fresh : (v w : Sight) (counts : List ℕ) → v ≡ fresh v.parts counts → w ≡ record v { parts = v.parts - 1 } → w ≡ fresh w.parts counts
+pub cut-fresh : (v w : SeatView) (counts : List ℕ) → v ≡ fresh v.parts counts → w ≡ record v { parts = v.parts - 1 } → w ≡ fresh w.parts counts
 cut-fresh v w counts is cut =
-    let parts : w.parts ≡ v.parts - 1 = ap (λ (u : Sight). u.parts) cut in
-    cut ∙ ap (λ (u : Sight). record u { parts = v.parts - 1 }) is ∙ ap (λ p. fresh p counts) (sym parts)
+    let parts : w.parts ≡ v.parts - 1 = ap (λ (u : SeatView). u.parts) cut in
+    cut ∙ ap (λ (u : SeatView). record u { parts = v.parts - 1 }) is ∙ ap (λ p. fresh p counts) (sym parts)
 
 module _ (counts : List ℕ) where
-  pub splits : (id : ℕ) (v : Sight) → 1 < v.parts → v.past ≡ [] → Splits (ClaimsStand counts) id v (record v { parts = v.parts - 1 }) (fresh 1 v.counts)
+  pub splits : (id : ℕ) (v : SeatView) → 1 < v.parts → v.past ≡ [] → Splits (ClaimsStand counts) id v (record v { parts = v.parts - 1 }) (fresh 1 v.counts)
   splits id v more clean s h at =
-      let l : Sight = record v { parts = v.parts - 1 } in
-      let r : Sight = fresh 1 v.counts in
+      let l : SeatView = record v { parts = v.parts - 1 } in
+      let r : SeatView = fresh 1 v.counts in
       let vs = set s.views id l in
       let mine = h.each id v at in
       record {
@@ -67,11 +67,11 @@ module _ (counts : List ℕ) where
         small = h.small;
       }
 
-  pub joins : (id : ℕ) (v : Sight) (other : ℕ) (w : Sight) → 0 < v.parts → Joins (ClaimsStand counts) id v other w
+  pub joins : (id : ℕ) (v : SeatView) (other : ℕ) (w : SeatView) → 0 < v.parts → Joins (ClaimsStand counts) id v other w
       (joined v w) (fresh 0 [])
   joins id v other w part s h at apart at2 =
-      let both : Sight = joined v w in
-      let spent : Sight = fresh 0 [] in
+      let both : SeatView = joined v w in
+      let spent : SeatView = fresh 0 [] in
       let vs = set s.views id both in
       let mine = h.each id v at in
       let was : get_elem? s.views other ≡ some w = ⊎_elim (λ x. absurd (apart x.0)) (λ x. x.1) (at_set s.views id other both w at2) in
@@ -114,7 +114,7 @@ module _ (counts : List ℕ) where
         small = h.small;
       }
 
-  pub settles : (id : ℕ) (v : Sight) (ws : List ℕ) (xs : List ℕ) → v.parts ≡ 256 → Final (Seen (ClaimsStand counts) id v) ws xs
+  pub settles : (id : ℕ) (v : SeatView) (ws : List ℕ) (xs : List ℕ) → v.parts ≡ 256 → Final (Seen (ClaimsStand counts) id v) ws xs
       → (words : List ℕ) × ((r m : ℕ) → claims r m v ≡ once m (slice_index words r) (slice_index counts r)) × (weigh (past_word words) v.looks ≡ 0)
   settles id v ws xs whole final =
       let s = final.0 in
@@ -122,7 +122,7 @@ module _ (counts : List ℕ) where
       let at = final.1.1 in (
         s.words,
         (λ r m.
-            let all : weigh (λ (u : Sight). u.parts) s.views ≡ v.parts = omega (arith, whole, h.parts) in
+            let all : weigh (λ (u : SeatView). u.parts) s.views ≡ v.parts = omega (arith, whole, h.parts) in
             let sum = total_whole (claims r m) s.views id v (fresh 0 []) at all refl refl (λ j u e none. ap (λ (l : List (ℕ × ℕ)). weigh (is_claim r m) l) ((h.each j u e).spent none).0) in
             sym sum ∙ h.once_each r m),
         (h.each id v at).seen,

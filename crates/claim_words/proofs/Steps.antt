@@ -5,16 +5,16 @@ use lib.ListN.{get_elem?}
 use Rattle.std.proofs.lemmas.List.{set-get_or}
 use Rattle.std.proofs.Math.Nat.{mod-eq_of_lt}
 use Rattle.atomic_table.specs.Table.{State, keeps, Allows}
-use Rattle.claim_words.specs.declared.sight.Sight.{Sight}
-use Rattle.claim_words.specs.declared.sight.LookKind.TheVariants as kind
+use Rattle.claim_words.specs.declared.seat_view.SeatView.{SeatView}
+use Rattle.claim_words.specs.declared.seat_view.LookKind.TheVariants as kind
 use Rattle.claim_words.specs.Claims.{is_claim, is_row, claims, pasts, once, Keeps, Each, ClaimsStand, past_word, look, looked, drawn}
 use Rattle.claim_words.proofs.Sums.{weigh-append, total_set, each_set, sum_le, split_lt, word_after, once_more, once_past, claim_here, claim_else, row_here, row_else, weigh_le, past_le, past_none}
 
 module _ (counts : List ℕ) where
-  pub looks : (slots id row : ℕ) (v : Sight) (held : List (ℕ × ℕ)) → 0 < v.parts → Allows (ClaimsStand counts) slots id (v, held) row (λ n. n) (λ n after. after ≡ (looked v row n, held))
+  pub looks : (slots id row : ℕ) (v : SeatView) (held : List (ℕ × ℕ)) → 0 < v.parts → Allows (ClaimsStand counts) slots id (v, held) row (λ n. n) (λ n after. after ≡ (looked v row n, held))
   looks slots id row v held part s h homes at small =
       let n = slice_index s.words row in
-      let w : Sight = looked v row n in
+      let w : SeatView = looked v row n in
       let mine = h.each id v at in
       let reported = mine.reported part in
       let kept : Keeps counts s.words w = record {
@@ -47,13 +47,13 @@ module _ (counts : List ℕ) where
       (w, keeps, tt, subst (λ (ws : List ℕ). ClaimsStand counts (record { words = ws; homes = s.homes; views = set s.views id w })) (sym (set-get_or s.words row 0)) all, refl)
 
   -- The view after a member was drawn, and after a number past the members.
-  abbrev taken : Sight → ℕ → ℕ → Sight
+  abbrev taken : SeatView → ℕ → ℕ → SeatView
   taken v row n = record v { trying = 0; looks = v.looks ++ look row kind.Draw n ∷ []; claimed = v.claimed ++ (row, n) ∷ []; past = v.past }
 
-  abbrev passed : Sight → ℕ → ℕ → Sight
+  abbrev passed : SeatView → ℕ → ℕ → SeatView
   passed v row n = record v { trying = 0; looks = v.looks ++ look row kind.Draw n ∷ []; claimed = v.claimed; past = v.past ++ row ∷ [] }
 
-  abbrev drawn_by : Bool → Sight → ℕ → ℕ → Sight
+  abbrev drawn_by : Bool → SeatView → ℕ → ℕ → SeatView
   drawn_by b v row n = record v {
     trying = 0;
     looks = v.looks ++ look row kind.Draw n ∷ [];
@@ -61,7 +61,7 @@ module _ (counts : List ℕ) where
     past = if b then v.past else v.past ++ row ∷ [];
   }
 
-  module _ (id row : ℕ) (v : Sight) (s : State ℕ Sight) (part : 0 < v.parts) (there : row < length counts) (try : v.trying ≡ suc row) (h : ClaimsStand counts s) (at : get_elem? s.views id ≡ some v) where
+  module _ (id row : ℕ) (v : SeatView) (s : State ℕ SeatView) (part : 0 < v.parts) (there : row < length counts) (try : v.trying ≡ suc row) (h : ClaimsStand counts s) (at : get_elem? s.views id ≡ some v) where
     n : ℕ
     n = slice_index s.words row
 
@@ -92,7 +92,7 @@ module _ (counts : List ℕ) where
         → ClaimsStand counts (record { words = set s.words row (slice_index s.words row + 1); homes = s.homes; views = set s.views id (taken v row (slice_index s.words row)) })
     takes_one low =
         let k = slice_index s.words row in
-        let w : Sight = taken v row k in
+        let w : SeatView = taken v row k in
         let mine = stay id v at in
         record {
           parts = (let t = total_set (λ u. u.parts) s.views id v w at in omega (arith, t, h.parts));
@@ -135,7 +135,7 @@ module _ (counts : List ℕ) where
         → ClaimsStand counts (record { words = set s.words row (slice_index s.words row + 1); homes = s.homes; views = set s.views id (passed v row (slice_index s.words row)) })
     goes_past high =
         let k = slice_index s.words row in
-        let w : Sight = passed v row k in
+        let w : SeatView = passed v row k in
         let mine = stay id v at in
         let clean = (h.each id v at).fresh row try in
         let more = λ (r : ℕ). weigh-append (is_row r) v.past (row ∷ []) in
@@ -197,7 +197,7 @@ module _ (counts : List ℕ) where
         let c = h.small row in
         mod-eq_of_lt (omega (arith, most, b, c, h.parts))
 
-  pub draws : (slots id row : ℕ) (v : Sight) (held : List (ℕ × ℕ)) → 0 < v.parts → row < length counts → v.trying ≡ suc row
+  pub draws : (slots id row : ℕ) (v : SeatView) (held : List (ℕ × ℕ)) → 0 < v.parts → row < length counts → v.trying ≡ suc row
       → Allows (ClaimsStand counts) slots id (v, held) row (λ n. (n + 1) % 2 ^ 64) (λ n after. after ≡ (drawn v row n, held))
   draws slots id row v held part there try s h homes at small =
       let k = slice_index s.words row in

@@ -6,23 +6,23 @@ use Rattle.std.proofs.lemmas.Bool.Decides.{nat_tests}
 use Rattle.std.proofs.lemmas.List.{get_or-set_same, get_or-set_other}
 use Rattle.std.proofs.lemmas.Bool.{cases_eq}
 use Rattle.atomic_table.proofs.Lists.{at_set, at_snoc}
-use Rattle.claim_words.specs.declared.sight.Sight.{Sight}
-use Rattle.claim_words.specs.declared.sight.Look.{Look}
+use Rattle.claim_words.specs.declared.seat_view.SeatView.{SeatView}
+use Rattle.claim_words.specs.declared.seat_view.Look.{Look}
 use Rattle.claim_words.specs.Claims.{past_word, weigh, Each, is_claim, is_row, once}
 
 pub weigh-append : {X : Type 0} (f : X → ℕ) (xs ys : List X) → weigh f (xs ++ ys) ≡ weigh f xs + weigh f ys
 weigh-append f [] ys = omega arith
 weigh-append f (x ∷ xs) ys = let rest = weigh-append f xs ys in omega (arith, rest)
 
-pub total_set : (f : Sight → ℕ) (views : List Sight) (port : ℕ) (v w : Sight) → get_elem? views port ≡ some v → weigh f (set views port w) + f v ≡ weigh f views + f w
+pub total_set : (f : SeatView → ℕ) (views : List SeatView) (port : ℕ) (v w : SeatView) → get_elem? views port ≡ some v → weigh f (set views port w) + f v ≡ weigh f views + f w
 total_set f [] port v w at = absurd (some-ne-none v (sym at))
 total_set f (u ∷ views) zero v w at = let is : u ≡ v = cc at in let same = ap f is in omega (arith, same)
 total_set f (u ∷ views) (suc port) v w at = let rest = total_set f views port v w at in omega (arith, rest)
 
-pub each_set : (F : Sight → Type 0) (views : List Sight) (port : ℕ) (w : Sight) → F w → Each F views → Each F (set views port w)
+pub each_set : (F : SeatView → Type 0) (views : List SeatView) (port : ℕ) (w : SeatView) → F w → Each F views → Each F (set views port w)
 each_set F views port w mine others j u e = ⊎_elim (λ (x : (j ≡ port) × (w ≡ u)). subst F x.1 mine) (λ (x : (j ≢ port) × (get_elem? views j ≡ some u)). others j u x.1) (at_set views port j w u e)
 
-pub sum_le : (f g : Sight → ℕ) (views : List Sight) → Each (λ v. f v ≤ g v) views → weigh f views ≤ weigh g views
+pub sum_le : (f g : SeatView → ℕ) (views : List SeatView) → Each (λ v. f v ≤ g v) views → weigh f views ≤ weigh g views
 sum_le f g [] each = omega arith
 sum_le f g (u ∷ views) each = let here = each 0 u refl in let rest = sum_le f g views (λ j v at. each (suc j) v at) in omega (arith, here, rest)
 
@@ -63,14 +63,14 @@ any_default [] i a b there = absurd (omega arith)
 any_default (x ∷ l) zero a b there = refl
 any_default (x ∷ l) (suc i) a b there = any_default l i a b (omega (arith, there))
 
-pub total_snoc : (f : Sight → ℕ) (views : List Sight) (w : Sight) → weigh f (views ++ w ∷ []) ≡ weigh f views + f w
+pub total_snoc : (f : SeatView → ℕ) (views : List SeatView) (w : SeatView) → weigh f (views ++ w ∷ []) ≡ weigh f views + f w
 total_snoc f [] w = omega arith
 total_snoc f (u ∷ views) w = let rest = total_snoc f views w in omega (arith, rest)
 
-pub each_snoc : (F : Sight → Type 0) (views : List Sight) (w : Sight) → F w → Each F views → Each F (views ++ w ∷ [])
+pub each_snoc : (F : SeatView → Type 0) (views : List SeatView) (w : SeatView) → F w → Each F views → Each F (views ++ w ∷ [])
 each_snoc F views w mine others j u e = ⊎_elim (λ x. others j u x) (λ (is : w ≡ u). subst F is mine) (at_snoc views w u j e)
 
-pub zero_all : (f : Sight → ℕ) (views : List Sight) → weigh (λ v. v.parts) views ≡ 0 → Each (λ v. v.parts ≡ 0 → f v ≡ 0) views → weigh f views ≡ 0
+pub zero_all : (f : SeatView → ℕ) (views : List SeatView) → weigh (λ v. v.parts) views ≡ 0 → Each (λ v. v.parts ≡ 0 → f v ≡ 0) views → weigh f views ≡ 0
 zero_all f [] none idle = refl
 zero_all f (u ∷ views) none idle =
     let here = idle 0 u refl (omega (arith, none)) in
@@ -78,7 +78,7 @@ zero_all f (u ∷ views) none idle =
     omega (arith, here, rest)
 
 -- If one seat has all parts, a sum is that seat's own.
-pub total_whole : (f : Sight → ℕ) (views : List Sight) (port : ℕ) (v idle : Sight) → get_elem? views port ≡ some v → weigh (λ u. u.parts) views ≡ v.parts → idle.parts ≡ 0 → f idle ≡ 0
+pub total_whole : (f : SeatView → ℕ) (views : List SeatView) (port : ℕ) (v idle : SeatView) → get_elem? views port ≡ some v → weigh (λ u. u.parts) views ≡ v.parts → idle.parts ≡ 0 → f idle ≡ 0
     → Each (λ u. u.parts ≡ 0 → f u ≡ 0) views → weigh f views ≡ f v
 total_whole f views port v idle at whole none here others =
     let parts = total_set (λ u. u.parts) views port v idle at in

@@ -1,8 +1,8 @@
 -- The result of a claim, and all seats of a table.
 use Rattle.std.specs.Prelude.{◌≡◌, ℕ, ◌+◌, ◌<◌, ◌≤◌, ◌⊎◌, List, [], ◌∷◌, ◌++◌, slice_index}
 use Rattle.atomic_table.specs.Seated.{TableId}
-use Rattle.claim_words.specs.declared.sight.Sight.{Sight}
-use Rattle.claim_words.specs.declared.sight.LookKind.TheVariants as kind
+use Rattle.claim_words.specs.declared.seat_view.SeatView.{SeatView}
+use Rattle.claim_words.specs.declared.seat_view.LookKind.TheVariants as kind
 use Rattle.claim_words.specs.declared.seat.ClaimSeat.{ClaimSeat}
 use Rattle.claim_words.specs.declared.table.ClaimTable.{ClaimTable}
 use Rattle.claim_words.specs.declared.claimed.Claimed.{Claimed}
@@ -10,8 +10,8 @@ use Rattle.claim_words.specs.declared.claimed.Claimed.TheVariants.{Member, NoneL
 use Rattle.claim_words.specs.Claims.{look, weigh, claims, once, past_word}
 
 -- what a seat knows
-abbrev pub sight : ClaimSeat → Sight
-sight s = s.seat.me.0
+abbrev pub seat_view : ClaimSeat → SeatView
+seat_view s = s.seat.me.0
 
 -- what no claim changes: the seat's table, the members of its counters, and its parts
 pub record SeatIdentity : Type 0 where
@@ -21,7 +21,7 @@ pub record SeatIdentity : Type 0 where
 
 -- the identity of a seat
 abbrev pub identity : ClaimSeat → SeatIdentity
-identity s = record { table = s.seat.table_id; counts = (sight s).counts; parts = (sight s).parts }
+identity s = record { table = s.seat.table_id; counts = (seat_view s).counts; parts = (seat_view s).parts }
 
 -- the seat is one of the table
 abbrev pub IsOf : ClaimTable → SeatIdentity → Type 0
@@ -44,32 +44,32 @@ pub record AreAll (t : ClaimTable) (all : List SeatIdentity) : Type 0 where
 
 -- the seat has claimed nothing and read nothing
 abbrev pub IsNew : ClaimSeat → Type 0
-IsNew s = ((sight s).claimed ≡ []) × ((sight s).looks ≡ [])
+IsNew s = ((seat_view s).claimed ≡ []) × ((seat_view s).looks ≡ [])
 
--- The sight before and after a claim. The call notes each word that it read, as a load or as an addition; the word in the
+-- The view before and after a claim. The call notes each word that it read, as a load or as an addition; the word in the
 -- result is the last of them.
 abbrev pub ClaimGives : List ℕ → ℕ → ClaimSeat → Claimed → ClaimSeat → Type 0
 ClaimGives counts row old (Member m) new =
-    (m < slice_index counts row) × ((sight new).claimed ≡ (sight old).claimed ++ (row, m) ∷ [])
+    (m < slice_index counts row) × ((seat_view new).claimed ≡ (seat_view old).claimed ++ (row, m) ∷ [])
     × ((n : ℕ) × (n < slice_index counts row)
-    × ((sight new).looks ≡ (sight old).looks ++ look row kind.Look n
+    × ((seat_view new).looks ≡ (seat_view old).looks ++ look row kind.Look n
     ∷ look row kind.Draw m ∷ []))
 ClaimGives counts row old (NoneLeft shown) new =
-    (slice_index counts row ≤ shown) × ((sight new).claimed ≡ (sight old).claimed)
-    × (((sight new).looks ≡ (sight old).looks ++ look row kind.Look shown ∷ [])
+    (slice_index counts row ≤ shown) × ((seat_view new).claimed ≡ (seat_view old).claimed)
+    × (((seat_view new).looks ≡ (seat_view old).looks ++ look row kind.Look shown ∷ [])
     ⊎ ((n : ℕ) × (n < slice_index counts row)
-    × ((sight new).looks ≡ (sight old).looks ++ look row kind.Look n
+    × ((seat_view new).looks ≡ (seat_view old).looks ++ look row kind.Look n
     ∷ look row kind.Draw shown ∷ [])))
 
 -- how often all these seats claimed this member of this counter
 abbrev pub claims_of : ℕ → ℕ → List ClaimSeat → ℕ
 claims_of r m [] = 0
-claims_of r m (s ∷ seats) = claims r m (sight s) + claims_of r m seats
+claims_of r m (s ∷ seats) = claims r m (seat_view s) + claims_of r m seats
 
 -- how many words all these seats read that are above the counter's word
 abbrev pub reads_past : List ℕ → List ClaimSeat → ℕ
 reads_past words [] = 0
-reads_past words (s ∷ seats) = weigh (past_word words) (sight s).looks + reads_past words seats
+reads_past words (s ∷ seats) = weigh (past_word words) (seat_view s).looks + reads_past words seats
 
 -- The account of all these seats, with the counters' words. All seats together claimed each member below the word once, and
 -- nothing else. No word that was read is above the counter's, so if a seat found none left, each member was claimed.

@@ -6,10 +6,10 @@ mod claimed;
 pub mod laws;
 mod plays;
 mod seat;
-mod sight;
+mod seat_view;
 mod table;
 
 pub use claimed::Claimed;
 pub use seat::ClaimSeat;
-pub use sight::{Look, LookKind, Sight};
+pub use seat_view::{Look, LookKind, SeatView};
 pub use table::{ClaimTable, MOST_ROWS};

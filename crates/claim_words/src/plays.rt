@@ -1,11 +1,11 @@
 //! The invariant of the words, and what each kind of step reports.
-use crate::sight::Sight;
+use crate::seat_view::SeatView;
 use atomic_table::{Join, Play, Split, TableRule};
 
 /// The invariant of the words, over the members of each counter.
 pub struct ClaimRule;
 
-impl TableRule<u8, Sight, Vec<u8>> for ClaimRule {
+impl TableRule<u8, SeatView, Vec<u8>> for ClaimRule {
     ghost use Rattle.claim_words.specs.Claims.{ClaimsStand, fresh};
 
     ghost holds = { λ k s. ClaimsStand k.items s };
@@ -16,7 +16,7 @@ impl TableRule<u8, Sight, Vec<u8>> for ClaimRule {
 /// A load of a counter's word.
 pub struct LookPlay;
 
-impl Play<u8, Sight> for LookPlay {
+impl Play<u8, SeatView> for LookPlay {
     ghost use Rattle.std.specs.Prelude.{◌≡◌};
     ghost use Rattle.claim_words.specs.Claims.{looked};
 
@@ -26,7 +26,7 @@ impl Play<u8, Sight> for LookPlay {
 /// The addition by which a number is drawn.
 pub struct DrawPlay;
 
-impl Play<u8, Sight> for DrawPlay {
+impl Play<u8, SeatView> for DrawPlay {
     ghost use Rattle.std.specs.Prelude.{◌≡◌};
     ghost use Rattle.claim_words.specs.Claims.{drawn};
 
@@ -36,7 +36,7 @@ impl Play<u8, Sight> for DrawPlay {
 /// A seat with a part of another's, and a seat that takes another in.
 pub struct Share;
 
-impl Split<Sight> for Share {
+impl Split<SeatView> for Share {
     ghost use Rattle.std.specs.Prelude.{◌-◌};
     ghost use Rattle.claim_words.specs.Claims.{fresh};
 
@@ -45,7 +45,7 @@ impl Split<Sight> for Share {
     ghost right = { λ v. fresh 1 v.counts };
 }
 
-impl Join<Sight> for Share {
+impl Join<SeatView> for Share {
     ghost use Rattle.std.specs.Prelude.{[]};
     ghost use Rattle.claim_words.specs.Claims.{joined, fresh};
 

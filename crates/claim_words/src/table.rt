@@ -5,7 +5,7 @@ ghost use Rattle.claim_words.specs.declared.table.TheConstants.{MOST_ROWS};
 use crate::claimed::Claimed;
 use crate::plays::{ClaimRule, DrawPlay, LookPlay, Share};
 use crate::seat::ClaimSeat;
-use crate::sight::Sight;
+use crate::seat_view::SeatView;
 use atomic_table::Table;
 use std::alloc::{AllocError, Global};
 
@@ -16,7 +16,7 @@ pub const MOST_ROWS: usize = 65_535;
 /// hart claims with a seat of its own.
 #[derive(Drop)]
 pub struct ClaimTable {
-    pub(crate) table: Table<u8, Sight, Vec<u8>, ClaimRule, Global>,
+    pub(crate) table: Table<u8, SeatView, Vec<u8>, ClaimRule, Global>,
     pub(crate) counts: Vec<u8>,
     pub ghost key: { table.shared.key.items ≡ counts.items },
     pub ghost few: { length counts.items ≤ MOST_ROWS },

@@ -7,7 +7,7 @@ use Rattle.hart_port.specs.PortView.{PortView, is_in}
 use Rattle.site_steps.specs.Back.{IsSettled}
 use Rattle.array_jobs.specs.Jobs.{JobParts}
 use Rattle.array_jobs.specs.PieceParts.{PieceParts}
-use Rattle.shared_sites.specs.Identities.{ToolIdentities}
+use Rattle.shared_sites.specs.Identities.{HartLocalIdentities}
 use Rattle.hart_loop.specs.declared.hart.Hart.{Hart}
 
 -- The hart is in the base, and the home of no site; others may share the table.
@@ -33,12 +33,12 @@ pub record IsSameHart (v after : PortView) : Type 0 where
 abbrev pub TopSitesSeenGone : PortView → Type 0
 TopSitesSeenGone v = (s : ℕ) → IsSite v.plan s → parent v.plan s ≡ 0 → is_in v.gone s ≡ true
 
--- The hart has done its part of a run, with the tools that it was lent. If it had a job, it has seen each top site gone, and
+-- The hart has done its part of a run, with the hart-local state that it was lent. If it had a job, it has seen each top site gone, and
 -- its piece is that job's, if there is one.
-pub record HasRun (v : PortView) (tools : ToolIdentities) (job : Option JobParts) (after : PortView)
-    (tools' : ToolIdentities) (made : Option PieceParts) : Type 0 where
+pub record HasRun (v : PortView) (hart_local : HartLocalIdentities) (job : Option JobParts) (after : PortView)
+    (hart_local' : HartLocalIdentities) (made : Option PieceParts) : Type 0 where
   pub same : IsSameHart v after
-  pub lent : tools' ≡ tools
+  pub lent : hart_local' ≡ hart_local
   pub gone : (j : JobParts) → job ≡ Some j → TopSitesSeenGone after
   pub piece : (j : JobParts) → job ≡ Some j → IfSome made (λ k. k.job ≡ j)
 
@@ -63,11 +63,11 @@ pub record AreBack {Q : Type 0} (seen : Q → PortView) (name : List ℕ) (p : P
 -- Each has done its part of a run.
 abbrev pub HaveRun : {P S : Type 0} → (P → PortView) → List (Hart P S) → List (Hart P S) → Type 0
 HaveRun seen = AllZip (λ before after.
-    HasRun (seen before.port) before.schedulers.tools before.job
-    (seen after.port) after.schedulers.tools after.piece)
+    HasRun (seen before.port) before.schedulers.hart_local before.job
+    (seen after.port) after.schedulers.hart_local after.piece)
 
--- Each is the same hart, with the same tools.
+-- Each is the same hart, with the same hart-local state.
 abbrev pub AreTheSame : {P S : Type 0} → (P → PortView) → List (Hart P S) → List (Hart P S) → Type 0
 AreTheSame seen = AllZip (λ before after.
     IsSameHart (seen before.port) (seen after.port)
-    × (after.schedulers.tools ≡ before.schedulers.tools))
+    × (after.schedulers.hart_local ≡ before.schedulers.hart_local))

@@ -5,7 +5,7 @@ ghost use Rattle.array_jobs.specs.Jobs.{job_of};
 ghost use Rattle.array_jobs.specs.Bodies.{body_of};
 ghost use Rattle.deque_rows.specs.Rows.{identity as rows_identity};
 ghost use Rattle.claim_words.specs.Seats.{identity as seat_identity};
-ghost use Rattle.shared_sites.specs.Stocks.{AreTools};
+ghost use Rattle.shared_sites.specs.HartLocals.{AreHartLocals};
 ghost use Rattle.hart_loop.specs.Harts.{AllStart, AreSame, HaveRun, AreTheSame};
 
 use crate::hart::{Hart, work};
@@ -19,7 +19,7 @@ use disjoint_check::Accepted;
 use loop_team::ClaimSeat;
 use loop_team::laws::claimed;
 use once_cell::race::OnceBox;
-use shared_sites::{Claims, SharedSite, cells, lines, tools_of};
+use shared_sites::{Claims, SharedSite, cells, hart_locals_of, lines};
 use site_steps::{PatientPort, SiteTree};
 use std::alloc::{AllocError, Global};
 use std::sync::Wait;
@@ -60,13 +60,15 @@ pub fn run_ports<
         (λ back. job_of back.0.job ≡ body_of (program_of accepted.now.program)) }
     ensures same { IfOk result (λ back. AreSame P.seen ports.items back.1.items) }
 {
-    let (words, stock) = lend(alloc, accepted, ports)?;
-    let (piece, stock) = run_lent(rt, alloc, accepted, members, pass, tree, &words, stock)?;
-    let Stock {
+    let (words, crew_parts) = lend(alloc, accepted, ports)?;
+    let (piece, crew_parts) = run_lent(
+        rt, alloc, accepted, members, pass, tree, &words, crew_parts,
+    )?;
+    let CrewParts {
         ports,
         rows,
         claims,
-    } = stock;
+    } = crew_parts;
     settle_all(words, rows, claims);
     match piece {
         Some(piece) => Ok((piece, ports)),
@@ -74,9 +76,9 @@ pub fn run_ports<
     }
 }
 
-/// The tools of a run for its harts, for each of them in their order.
+/// The hart-local states of a run, one for each hart, in their order.
 #[derive(Drop)]
-struct Stock<P> {
+struct CrewParts<P> {
     /// Their ports.
     ports: Vec<P>,
     /// Their access to the deques.
@@ -85,39 +87,39 @@ struct Stock<P> {
     claims: Vec<ClaimSeat>,
 }
 
-// The tools of a run for the harts of these ports, and the claim table. Why this room: a deque has room for the job indices of
+// The hart-local states of a run, for the harts of these ports, and the claim table. Why this room: a deque has room for the job indices of
 // all pieces of the program, each of which is pushed at most once, so it allocates no more than it may use.
 fn lend<P: Drop>(
     alloc: Global,
     accepted: &Accepted<'_>,
     ports: Vec<P>,
-) -> Result<(Claims, Stock<P>), AllocError>
+) -> Result<(Claims, CrewParts<P>), AllocError>
     ensures ports { IfOk result (λ t. t.1.ports ≡ ports) }
     ensures rows { IfOk result (λ t. vec_len t.1.rows ≡ accepted.now.plan.harts) }
     ensures claims { IfOk result (λ t. vec_len t.1.claims ≡ accepted.now.plan.harts) }
-    ensures tools { IfOk result (λ t. AreTools t.0.table t.1.rows.items t.1.claims.items) }
+    ensures hart_local { IfOk result (λ t. AreHartLocals t.0.table t.1.rows.items t.1.claims.items) }
     ensures some { 0 < accepted.now.plan.harts }
 {
     let harts = accepted.plan().harts();
     let (words, claims) = Claims::new(alloc, accepted, harts)?;
     let rows = rows_for(alloc, harts, accepted.pieces().clamp(1, ROOM))?;
-    let stock = Stock {
+    let crew_parts = CrewParts {
         ports,
         rows,
         claims,
     };
-    Ok((words, stock))
+    Ok((words, crew_parts))
 }
 
 // Settles the accounts of deques and claims.
 fn settle_all(words: Claims, rows: Vec<HartRows>, claims: Vec<ClaimSeat>)
-    requires { AreTools words.table rows.items claims.items }
+    requires { AreHartLocals words.table rows.items claims.items }
 {
     settle(rows);
     claimed(words.into_table(), claims);
 }
 
-// Runs all harts with their tools, the first of them with the program's body. Returns the body's piece, unless an allocation
+// Runs all harts with their hart-local states, the first of them with the program's body. Returns the body's piece, unless an allocation
 // failed there, and what the harts gave back.
 fn run_lent<
     'p,
@@ -132,27 +134,27 @@ fn run_lent<
     pass: &F,
     tree: &SiteTree,
     words: &Claims,
-    stock: Stock<P>,
-) -> Result<(Option<Piece<'p>>, Stock<P>), AllocError>
+    crew_parts: CrewParts<P>,
+) -> Result<(Option<Piece<'p>>, CrewParts<P>), AllocError>
     requires callable { F.IsAlwaysCallable pass.now }
-    requires some { 0 < vec_len stock.ports }
-    requires rows { vec_len stock.rows ≡ vec_len stock.ports }
-    requires claims { vec_len stock.claims ≡ vec_len stock.ports }
-    requires starts { AllStart P.seen tree.now stock.ports.items }
-    requires tools { AreTools words.now.table stock.rows.items stock.claims.items }
+    requires some { 0 < vec_len crew_parts.ports }
+    requires rows { vec_len crew_parts.rows ≡ vec_len crew_parts.ports }
+    requires claims { vec_len crew_parts.claims ≡ vec_len crew_parts.ports }
+    requires starts { AllStart P.seen tree.now crew_parts.ports.items }
+    requires hart_local { AreHartLocals words.now.table crew_parts.rows.items crew_parts.claims.items }
     ensures piece { IfOk result (λ back. IfSome back.0
         (λ piece. job_of piece.job ≡ body_of (program_of accepted.now.program))) }
     ensures same { IfOk result
-        (λ back. AreSame P.seen stock.ports.items back.1.ports.items) }
-    ensures tools { IfOk result
-        (λ back. AreTools words.now.table back.1.rows.items back.1.claims.items) }
+        (λ back. AreSame P.seen crew_parts.ports.items back.1.ports.items) }
+    ensures hart_local { IfOk result
+        (λ back. AreHartLocals words.now.table back.1.rows.items back.1.claims.items) }
 {
     let sites = tree.plan().sites();
     let base = SharedBase::new(Base::new(alloc, sites)?);
     let cells = cells(alloc, sites)?;
     let job = body_job(alloc, accepted.program())?;
     run_on(
-        rt, alloc, members, pass, tree, words, stock, &base, &cells, job,
+        rt, alloc, members, pass, tree, words, crew_parts, &base, &cells, job,
     )
 }
 
@@ -171,26 +173,26 @@ fn run_on<
     pass: &F,
     tree: &SiteTree,
     words: &'x Claims,
-    stock: Stock<P>,
+    crew_parts: CrewParts<P>,
     base: &'x SharedBase,
     cells: &'x [OnceBox<SharedSite<'p>>],
     job: Job<'p>,
-) -> Result<(Option<Piece<'p>>, Stock<P>), AllocError>
+) -> Result<(Option<Piece<'p>>, CrewParts<P>), AllocError>
     requires callable { F.IsAlwaysCallable pass.now }
-    requires some { 0 < vec_len stock.ports }
-    requires rows { vec_len stock.rows ≡ vec_len stock.ports }
-    requires claims { vec_len stock.claims ≡ vec_len stock.ports }
-    requires starts { AllStart P.seen tree.now stock.ports.items }
-    requires tools { AreTools words.now.table stock.rows.items stock.claims.items }
+    requires some { 0 < vec_len crew_parts.ports }
+    requires rows { vec_len crew_parts.rows ≡ vec_len crew_parts.ports }
+    requires claims { vec_len crew_parts.claims ≡ vec_len crew_parts.ports }
+    requires starts { AllStart P.seen tree.now crew_parts.ports.items }
+    requires hart_local { AreHartLocals words.now.table crew_parts.rows.items crew_parts.claims.items }
     ensures piece { IfOk result (λ back. IfSome back.0 (λ piece. piece.job ≡ job.entry)) }
     ensures same { IfOk result
-        (λ back. AreSame P.seen stock.ports.items back.1.ports.items) }
-    ensures tools { IfOk result
-        (λ back. AreTools words.now.table back.1.rows.items back.1.claims.items) }
+        (λ back. AreSame P.seen crew_parts.ports.items back.1.ports.items) }
+    ensures hart_local { IfOk result
+        (λ back. AreHartLocals words.now.table back.1.rows.items back.1.claims.items) }
 {
-    let mut harts = crew(alloc, members, words, stock, base, cells)?;
+    let mut harts = crew(alloc, members, words, crew_parts, base, cells)?;
     let piece = run_crew(rt, alloc, pass, tree, harts.as_mut_slice(), job);
-    Ok((piece, stock_of(alloc, harts)?))
+    Ok((piece, crew_parts_of(alloc, harts)?))
 }
 
 // Runs each hart, the first of them with this job. Returns the job's piece, unless an allocation failed.
@@ -224,31 +226,31 @@ fn crew<'x, 'p: 'x, P: Drop>(
     alloc: Global,
     members: TeamMode,
     words: &'x Claims,
-    stock: Stock<P>,
+    crew_parts: CrewParts<P>,
     base: &'x SharedBase,
     cells: &'x [OnceBox<SharedSite<'p>>],
 ) -> Result<Vec<Hart<'x, 'p, P, SharedSite<'p>>>, AllocError>
-    requires rows { vec_len stock.rows ≡ vec_len stock.ports }
-    requires claims { vec_len stock.claims ≡ vec_len stock.ports }
-    requires tools { AreTools words.now.table stock.rows.items stock.claims.items }
+    requires rows { vec_len crew_parts.rows ≡ vec_len crew_parts.ports }
+    requires claims { vec_len crew_parts.claims ≡ vec_len crew_parts.ports }
+    requires hart_local { AreHartLocals words.now.table crew_parts.rows.items crew_parts.claims.items }
     ensures ports { IfOk result
-        (λ harts. map (λ hart. hart.port) harts.items ≡ stock.ports.items) }
+        (λ harts. map (λ hart. hart.port) harts.items ≡ crew_parts.ports.items) }
     ensures rows { IfOk result
-        (λ harts. map (λ hart. hart.schedulers.tools.rows) harts.items
-        ≡ map rows_identity stock.rows.items) }
+        (λ harts. map (λ hart. hart.schedulers.hart_local.rows) harts.items
+        ≡ map rows_identity crew_parts.rows.items) }
     ensures claims { IfOk result
-        (λ harts. map (λ hart. hart.schedulers.tools.seat) harts.items
-        ≡ map seat_identity stock.claims.items) }
+        (λ harts. map (λ hart. hart.schedulers.hart_local.seat) harts.items
+        ≡ map seat_identity crew_parts.claims.items) }
 {
-    let Stock {
+    let CrewParts {
         ports,
         rows,
         claims,
-    } = stock;
-    let mut tools = tools_of(alloc, words, rows, claims)?;
+    } = crew_parts;
+    let mut hart_local = hart_locals_of(alloc, words, rows, claims)?;
     let mut harts = Vec::with_capacity(alloc, ports.len())?;
     for port in ports {
-        let Some(own) = tools.pop() else {
+        let Some(own) = hart_local.pop() else {
             unreachable!()
         };
         harts.push(Hart {
@@ -315,30 +317,30 @@ fn run_each<
 }
 
 // What the harts give back, in their order.
-fn stock_of<'x, 'p: 'x, P: Drop>(
+fn crew_parts_of<'x, 'p: 'x, P: Drop>(
     alloc: Global,
     harts: Vec<Hart<'x, 'p, P, SharedSite<'p>>>,
-) -> Result<Stock<P>, AllocError>
+) -> Result<CrewParts<P>, AllocError>
     ensures ports { IfOk result
-        (λ stock. stock.ports.items ≡ map (λ hart. hart.port) harts.entry.items) }
+        (λ crew_parts. crew_parts.ports.items ≡ map (λ hart. hart.port) harts.entry.items) }
     ensures rows { IfOk result
-        (λ stock. map rows_identity stock.rows.items
-        ≡ map (λ hart. hart.schedulers.tools.rows) harts.entry.items) }
+        (λ crew_parts. map rows_identity crew_parts.rows.items
+        ≡ map (λ hart. hart.schedulers.hart_local.rows) harts.entry.items) }
     ensures claims { IfOk result
-        (λ stock. map seat_identity stock.claims.items
-        ≡ map (λ hart. hart.schedulers.tools.seat) harts.entry.items) }
+        (λ crew_parts. map seat_identity crew_parts.claims.items
+        ≡ map (λ hart. hart.schedulers.hart_local.seat) harts.entry.items) }
 {
-    let mut stock = Stock {
+    let mut crew_parts = CrewParts {
         ports: Vec::with_capacity(alloc, harts.len())?,
         rows: Vec::with_capacity(alloc, harts.len())?,
         claims: Vec::with_capacity(alloc, harts.len())?,
     };
     for hart in harts {
-        let (port, tools) = hart.into_parts();
-        let (rows, seat) = tools.into_parts();
-        stock.ports.push(port)?;
-        stock.rows.push(rows)?;
-        stock.claims.push(seat)?;
+        let (port, hart_local) = hart.into_parts();
+        let (rows, seat) = hart_local.into_parts();
+        crew_parts.ports.push(port)?;
+        crew_parts.rows.push(rows)?;
+        crew_parts.claims.push(seat)?;
     }
-    Ok(stock)
+    Ok(crew_parts)
 }

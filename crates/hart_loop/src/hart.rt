@@ -8,7 +8,7 @@ use crate::in_directory::InDirectory;
 use array_jobs::{Job, Piece};
 use base_sched::SharedBase;
 use hart_work::{run_piece, serve};
-use shared_sites::Tools;
+use shared_sites::HartLocal;
 use site_steps::{PatientPort, SiteTree, finish_base, sweep_if};
 use std::alloc::{AllocError, Global};
 use std::sync::Wait;
@@ -25,10 +25,10 @@ pub struct Hart<'a, 'p, P, S> {
 }
 
 impl<'a, 'p, P, S: Drop> Hart<'a, 'p, P, S> {
-    /// The hart's port, and the tools that it was lent.
-    pub fn into_parts(self) -> (P, Tools<'a>)
+    /// The hart's port, and the hart-local state that it was lent.
+    pub fn into_parts(self) -> (P, HartLocal<'a>)
         ensures port { result.0 ≡ self.entry.port }
-        ensures tools { result.1 ≡ self.entry.schedulers.tools }
+        ensures hart_local { result.1 ≡ self.entry.schedulers.hart_local }
     {
         let Hart {
             port,
@@ -37,7 +37,7 @@ impl<'a, 'p, P, S: Drop> Hart<'a, 'p, P, S> {
             job: _,
             piece: _,
         } = self;
-        (port, schedulers.into_tools())
+        (port, schedulers.into_hart_local())
     }
 }
 
@@ -54,8 +54,8 @@ pub fn work<'a, 'p, P: PatientPort, R: Wait, S: InDirectory<'p>, F: Fn(u8, u16, 
 )
     requires callable { F.IsAlwaysCallable pass.now }
     requires starts { StartsIn tree.now (P.seen hart.old.port) }
-    ensures { HasRun (P.seen hart.old.port) hart.old.schedulers.tools hart.old.job
-        (P.seen hart.new.port) hart.new.schedulers.tools hart.new.piece }
+    ensures { HasRun (P.seen hart.old.port) hart.old.schedulers.hart_local hart.old.job
+        (P.seen hart.new.port) hart.new.schedulers.hart_local hart.new.piece }
 {
     match hart.job.take() {
         Some(job) => {
@@ -92,7 +92,7 @@ fn run_body<'a, 'p, P: PatientPort, R: Wait, S: InDirectory<'p>, F: Fn(u8, u16, 
     requires callable { F.IsAlwaysCallable pass.now }
     requires starts { StartsIn tree.now (P.seen hart.old.port) }
     ensures same { IsSameHart (P.seen hart.old.port) (P.seen hart.new.port) }
-    ensures tools { hart.new.schedulers.tools ≡ hart.old.schedulers.tools }
+    ensures hart_local { hart.new.schedulers.hart_local ≡ hart.old.schedulers.hart_local }
     ensures gone { TopSitesSeenGone (P.seen hart.new.port) }
     ensures piece { IfOk result (λ piece. piece.job ≡ job.entry) }
 {

@@ -10,7 +10,7 @@ use crate::members::TeamMode;
 use crate::opened::{publish, shared_site, written_by};
 use array_eval::Overlay;
 use base_sched::SharedBase;
-use shared_sites::{Completed, SchedulerRef, SharedSite, SiteCell, Tools};
+use shared_sites::{Completed, HartLocal, SchedulerRef, SharedSite, SiteCell};
 use std::alloc::{AllocError, Global};
 use std::sync::Wait;
 use step_eval::Nested;
@@ -84,18 +84,18 @@ impl<'a, 'p, S: InDirectory<'p>> HartSite<'a, 'p, S> {
     pub(crate) fn open(
         alloc: Global,
         lines: &mut [SiteCell<'a, S>],
-        tools: &Tools<'_>,
+        hart_local: &HartLocal<'_>,
         members: TeamMode,
         nested: &Nested<'p>,
     ) -> Result<HartSite<'a, 'p, S>, AllocError>
         ensures opened { IfOk result (λ site. site.opened ≡ Some nested.now) }
         ensures made { IfOk result (λ site. IsOpened S.held site) }
     {
-        let level = tools.level(nested.site);
+        let level = hart_local.level(nested.site);
         let own = nested.copy()?;
-        let shared = shared_site(alloc, tools.hart(), members, nested)?;
+        let shared = shared_site(alloc, hart_local.hart(), members, nested)?;
         let shared = Box::new(alloc, S::put(shared))?;
-        let placement = if tools.has_room(level, nested) {
+        let placement = if hart_local.has_room(level, nested) {
             publish(lines, nested.site, shared)
         } else {
             Placement::Kept(shared)
@@ -116,21 +116,28 @@ impl<'a, 'p, S: InDirectory<'p>> HartSite<'a, 'p, S> {
     }
 
     /// The reference to the site's scheduler.
-    pub(crate) fn scheduler_ref<'x, 't>(&'x self, tools: &Tools<'t>) -> SchedulerRef<'x, 'p>
+    pub(crate) fn scheduler_ref<'x, 't>(
+        &'x self,
+        hart_local: &HartLocal<'t>,
+    ) -> SchedulerRef<'x, 'p>
     where
         't: 'x,
-        ensures { Fits tools.now result }
+        ensures { Fits hart_local.now result }
     {
         match &self.placement {
             Placement::Base(base) => SchedulerRef::Base(base),
-            Placement::Published(shared) => tools.scheduler_ref(shared.shared(), self.level),
-            Placement::Kept(shared) => tools.scheduler_ref(shared.shared(), self.level),
+            Placement::Published(shared) => hart_local.scheduler_ref(shared.shared(), self.level),
+            Placement::Kept(shared) => hart_local.scheduler_ref(shared.shared(), self.level),
         }
     }
 
     /// The number of harts, besides its home, for which the site has work: 0 if no other hart finds it, or has a hand on it.
-    pub(crate) fn wishes(&self, tools: &Tools<'_>) -> u8 {
-        match (&self.placement, &self.opened, self.scheduler_ref(tools)) {
+    pub(crate) fn wishes(&self, hart_local: &HartLocal<'_>) -> u8 {
+        match (
+            &self.placement,
+            &self.opened,
+            self.scheduler_ref(hart_local),
+        ) {
             (_, _, SchedulerRef::NoScheduler) => 0,
             (Placement::Published(_), Some(nested), _) => nested.members() - 1,
             _ => 0,
@@ -144,15 +151,15 @@ impl<'a, 'p, S: InDirectory<'p>> HartSite<'a, 'p, S> {
         &self,
         rt: &R,
         alloc: Global,
-        tools: &mut Tools<'_>,
+        hart_local: &mut HartLocal<'_>,
     ) -> Result<Overlay, AllocError>
         requires opened { IsSome self.now.opened }
         requires made { IsOpened S.held self.now }
         ensures written { (nested : NestedParts) → self.now.opened ≡ Some nested → IfOk result
             (λ written. written.pairs ≡ nested_writes (nested_of nested)) }
-        ensures tools { tools.new ≡ tools.old }
+        ensures hart_local { hart_local.new ≡ hart_local.old }
     {
-        let completed = self.take_out(rt, tools)?;
+        let completed = self.take_out(rt, hart_local)?;
         match (&self.opened, self.shared()) {
             (Some(nested), Some(shared)) => written_by(alloc, nested, shared, completed),
             (Some(_), None) => unreachable!(),
@@ -165,17 +172,17 @@ impl<'a, 'p, S: InDirectory<'p>> HartSite<'a, 'p, S> {
     fn take_out<R: Wait>(
         &self,
         rt: &R,
-        tools: &mut Tools<'_>,
+        hart_local: &mut HartLocal<'_>,
     ) -> Result<Option<Completed<'p>>, AllocError>
         ensures completed { IfOk result (λ completed. IfSome completed IsCompleted) }
-        ensures tools { tools.new ≡ tools.old }
+        ensures hart_local { hart_local.new ≡ hart_local.old }
     {
-        let scheduler_ref = self.scheduler_ref(tools);
-        let completed = tools.take_out(rt, scheduler_ref);
+        let scheduler_ref = self.scheduler_ref(hart_local);
+        let completed = hart_local.take_out(rt, scheduler_ref);
         let has_failed = match &completed {
             Some(completed) => completed.has_failed(),
             None => !matches!(scheduler_ref, SchedulerRef::NoScheduler)
-                && tools.has_failed(rt, scheduler_ref),
+                && hart_local.has_failed(rt, scheduler_ref),
         };
         if has_failed {
             Err(AllocError)

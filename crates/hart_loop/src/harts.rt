@@ -18,7 +18,7 @@ use sched_api::{
     Lent, Next, Scheduler, sched_enter, sched_register, sched_request, sched_unregister,
     sched_yield,
 };
-use shared_sites::{SiteCell, Tools};
+use shared_sites::{HartLocal, SiteCell};
 use std::alloc::{AllocError, Global};
 use std::marker::PhantomData;
 use std::sync::Wait;
@@ -29,39 +29,39 @@ use step_eval::Nested;
 #[derive(Drop)]
 pub struct HartSchedulers<'a, 'p, S> {
     lines: Vec<SiteCell<'a, S>>,
-    tools: Tools<'a>,
+    hart_local: HartLocal<'a>,
     members: TeamMode,
     of: PhantomData<&'p Block>,
 }
 
 impl<'a, 'p, S> HartSchedulers<'a, 'p, S> {
-    /// The schedulers of a hart, by its lines to the cells of all sites, its tools, and the way in which members go on.
+    /// The schedulers of a hart, by its lines to the cells of all sites, its hart-local state, and the way in which members go on.
     pub fn new(
         lines: Vec<SiteCell<'a, S>>,
-        tools: Tools<'a>,
+        hart_local: HartLocal<'a>,
         members: TeamMode,
     ) -> HartSchedulers<'a, 'p, S>
-        ensures { result.tools ≡ tools.entry }
+        ensures { result.hart_local ≡ hart_local.entry }
     {
         HartSchedulers {
             lines,
-            tools,
+            hart_local,
             members,
             of: PhantomData,
         }
     }
 
-    /// The hart's tools.
-    pub fn into_tools(self) -> Tools<'a>
-        ensures { result ≡ self.entry.tools }
+    /// The hart-local state.
+    pub fn into_hart_local(self) -> HartLocal<'a>
+        ensures { result ≡ self.entry.hart_local }
     {
         let HartSchedulers {
             lines: _,
-            tools,
+            hart_local,
             members: _,
             of: _,
         } = self;
-        tools
+        hart_local
     }
 }
 
@@ -84,9 +84,9 @@ impl<'a, 'p, S: InDirectory<'p>, R: Wait> Schedulers<R, JobMachines<'p>>
     type Site = HartSite<'a, 'p, S>;
 
     // Only contracts use this type. They don't depend on its lifetime.
-    type Tools = Tools<'static>;
+    type HartLocal = HartLocal<'static>;
 
-    ghost tools = { λ s. s.tools };
+    ghost hart_local = { λ s. s.hart_local };
 
     // Why: others share the table, so the hart keeps no account of its entries for sites.
     ghost keeps = { ⊥ };
@@ -119,21 +119,21 @@ impl<'a, 'p, S: InDirectory<'p>, R: Wait> Schedulers<R, JobMachines<'p>>
         HartSite::open(
             alloc,
             self.lines.as_mut_slice(),
-            &self.tools,
+            &self.hart_local,
             self.members,
             nested,
         )
     }
 
     fn wishes(&self, site: &HartSite<'a, 'p, S>) -> u8 {
-        site.wishes(&self.tools)
+        site.wishes(&self.hart_local)
     }
 
     /// Blocks until the site is in the directory.
     fn find(&mut self, rt: &R, site: u16) -> Option<HartSite<'a, 'p, S>> {
         let line = self.lines.get_mut(usize::from(site))?;
         let shared = line.until_found(rt);
-        Some(HartSite::found(shared, self.tools.level(site)))
+        Some(HartSite::found(shared, self.hart_local.level(site)))
     }
 
     fn register<P: Port>(
@@ -144,13 +144,14 @@ impl<'a, 'p, S: InDirectory<'p>, R: Wait> Schedulers<R, JobMachines<'p>>
         around: &mut HartSite<'a, 'p, S>,
         child: u16,
     ) -> Result<(), Taken> {
-        let scheduler_ref = around.scheduler_ref(&self.tools);
-        self.tools.register(rt, scheduler_ref, port, hold, child)
+        let scheduler_ref = around.scheduler_ref(&self.hart_local);
+        self.hart_local
+            .register(rt, scheduler_ref, port, hold, child)
     }
 
     fn offer(&mut self, rt: &R, site: &HartSite<'a, 'p, S>) {
-        let scheduler_ref = site.scheduler_ref(&self.tools);
-        self.tools.offer(rt, scheduler_ref);
+        let scheduler_ref = site.scheduler_ref(&self.hart_local);
+        self.hart_local.offer(rt, scheduler_ref);
     }
 
     fn request<P: Port>(
@@ -162,8 +163,8 @@ impl<'a, 'p, S: InDirectory<'p>, R: Wait> Schedulers<R, JobMachines<'p>>
         child: u16,
         count: u8,
     ) {
-        let scheduler_ref = around.scheduler_ref(&self.tools);
-        self.tools
+        let scheduler_ref = around.scheduler_ref(&self.hart_local);
+        self.hart_local
             .request(rt, scheduler_ref, port, hold, child, count);
     }
 
@@ -174,8 +175,8 @@ impl<'a, 'p, S: InDirectory<'p>, R: Wait> Schedulers<R, JobMachines<'p>>
         hold: P::Hold,
         around: &mut HartSite<'a, 'p, S>,
     ) {
-        let scheduler_ref = around.scheduler_ref(&self.tools);
-        self.tools.unregister(rt, scheduler_ref, port, hold);
+        let scheduler_ref = around.scheduler_ref(&self.hart_local);
+        self.hart_local.unregister(rt, scheduler_ref, port, hold);
     }
 
     fn enter<P: Port>(
@@ -186,8 +187,8 @@ impl<'a, 'p, S: InDirectory<'p>, R: Wait> Schedulers<R, JobMachines<'p>>
         site: &mut HartSite<'a, 'p, S>,
         child: u16,
     ) -> Option<Task<Job<'p>>> {
-        let scheduler_ref = site.scheduler_ref(&self.tools);
-        let told = self.tools.enter(rt, scheduler_ref, port, hold, child)?;
+        let scheduler_ref = site.scheduler_ref(&self.hart_local);
+        let told = self.hart_local.enter(rt, scheduler_ref, port, hold, child)?;
         Some(task_of(told))
     }
 
@@ -198,15 +199,15 @@ impl<'a, 'p, S: InDirectory<'p>, R: Wait> Schedulers<R, JobMachines<'p>>
         hold: P::Hold,
         around: &mut HartSite<'a, 'p, S>,
     ) {
-        let scheduler_ref = around.scheduler_ref(&self.tools);
-        self.tools.give_back(rt, scheduler_ref, port, hold);
+        let scheduler_ref = around.scheduler_ref(&self.hart_local);
+        self.hart_local.give_back(rt, scheduler_ref, port, hold);
     }
 
     /// Blocks if there is nothing to do and the hart stays.
     fn next(&mut self, rt: &R, site: &mut HartSite<'a, 'p, S>, is_home: bool) -> Task<Job<'p>> {
         take_turn(rt, &mut site.turns);
-        let scheduler_ref = site.scheduler_ref(&self.tools);
-        task_of(self.tools.next(rt, scheduler_ref, is_home))
+        let scheduler_ref = site.scheduler_ref(&self.hart_local);
+        task_of(self.hart_local.next(rt, scheduler_ref, is_home))
     }
 
     fn deposit(
@@ -216,18 +217,18 @@ impl<'a, 'p, S: InDirectory<'p>, R: Wait> Schedulers<R, JobMachines<'p>>
         site: &mut HartSite<'a, 'p, S>,
         piece: Piece<'p>,
     ) {
-        let scheduler_ref = site.scheduler_ref(&self.tools);
-        self.tools.deposit(rt, scheduler_ref, piece);
+        let scheduler_ref = site.scheduler_ref(&self.hart_local);
+        self.hart_local.deposit(rt, scheduler_ref, piece);
     }
 
     fn fail(&mut self, rt: &R, site: &mut HartSite<'a, 'p, S>, phase: u8, place: u8) {
-        let scheduler_ref = site.scheduler_ref(&self.tools);
-        self.tools.fail(rt, scheduler_ref, phase, place);
+        let scheduler_ref = site.scheduler_ref(&self.hart_local);
+        self.hart_local.fail(rt, scheduler_ref, phase, place);
     }
 
     fn has_failed(&mut self, rt: &R, site: &HartSite<'a, 'p, S>) -> bool {
-        let scheduler_ref = site.scheduler_ref(&self.tools);
-        self.tools.has_failed(rt, scheduler_ref)
+        let scheduler_ref = site.scheduler_ref(&self.hart_local);
+        self.hart_local.has_failed(rt, scheduler_ref)
     }
 
     fn take(
@@ -236,6 +237,6 @@ impl<'a, 'p, S: InDirectory<'p>, R: Wait> Schedulers<R, JobMachines<'p>>
         alloc: Global,
         site: HartSite<'a, 'p, S>,
     ) -> Result<Overlay, AllocError> {
-        site.take(rt, alloc, &mut self.tools)
+        site.take(rt, alloc, &mut self.hart_local)
     }
 }

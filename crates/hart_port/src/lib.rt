@@ -4,7 +4,7 @@
 //! harts did. The trait `Port` defines what each call needs and does, for every number of harts. `PlainPort` is the port of a
 //! single hart that shares nothing, with its journal in a `Ledger`. `LockedPort` is the port of one of several harts that share
 //! a table under a lock. `specs/PortView.antt` defines what contracts see of a port, `specs/Words.antt` the words that a port
-//! shows. `layer_tests` has examples.
+//! shows. `table_tests` has examples.
 #![tactic(auto)]
 
 mod ledger;

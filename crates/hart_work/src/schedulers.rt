@@ -34,11 +34,11 @@ pub trait Schedulers<R, M: Machines> {
     /// One site's scheduler, or the base's.
     type Site: Drop;
 
-    /// The identity of the tools that the hart was lent for all sites.
-    type Tools;
+    /// The identity of the hart-local state that the hart was lent for all sites.
+    type HartLocal;
 
-    /// Its tools. No call changes them.
-    ghost tools: { Self → Self.Tools };
+    /// Its hart-local state. No call changes them.
+    ghost hart_local: { Self → Self.HartLocal };
 
     /// Whether the hart keeps an account of its entries for each site. A hart that shares the table keeps none.
     ghost keeps: { Type 0 };
@@ -81,7 +81,7 @@ pub trait Schedulers<R, M: Machines> {
             → IsPlan p → M.fresh p around es nested.now → serving site p (M.number_of nested.now)
             (es ++ Register hart (M.number_of nested.now) ∷ [])
             (es ++ Register hart (M.number_of nested.now) ∷ [])) }
-        ensures tools { tools self.new ≡ tools self.old };
+        ensures hart_local { hart_local self.new ≡ hart_local self.old };
 
     /// The number of harts, besides its home, for which the site has work.
     fn wishes(&self, site: &Self::Site) -> u8;
@@ -89,7 +89,7 @@ pub trait Schedulers<R, M: Machines> {
     /// The scheduler of a site that another hart opened.
     fn find(&mut self, rt: &R, site: u16) -> Option<Self::Site>
         ensures settled { ForSome result (λ site. settled site) }
-        ensures tools { tools self.new ≡ tools self.old };
+        ensures hart_local { hart_local self.new ≡ hart_local self.old };
 
     /// Registers the child, and makes the callback of the scheduler around it.
     ///
@@ -115,11 +115,11 @@ pub trait Schedulers<R, M: Machines> {
         ensures served { StaysServed (serving around.old) (lent around.old)
             (serving around.new) (lent around.new) }
         ensures left { left around.new ≤ left around.old }
-        ensures tools { tools self.new ≡ tools self.old };
+        ensures hart_local { hart_local self.new ≡ hart_local self.old };
 
     /// Offers the pieces of a site that the hart opened and has registered to the harts that it requests next.
     fn offer(&mut self, rt: &R, site: &Self::Site)
-        ensures { tools self.new ≡ tools self.old };
+        ensures { hart_local self.new ≡ hart_local self.old };
 
     /// Requests `count` harts for the child, and makes the callback of the scheduler around it.
     fn request<P: Port>(
@@ -142,7 +142,7 @@ pub trait Schedulers<R, M: Machines> {
         ensures served { StaysServed (serving around.old) (lent around.old)
             (serving around.new) (lent around.new) }
         ensures left { left around.new ≤ left around.old }
-        ensures tools { tools self.new ≡ tools self.old };
+        ensures hart_local { hart_local self.new ≡ hart_local self.old };
 
     /// Unregisters the port's owner, and makes the callback of the scheduler around it.
     fn unregister<P: Port>(&mut self, rt: &R, port: &mut P, hold: P::Hold, around: &mut Self::Site)
@@ -156,7 +156,7 @@ pub trait Schedulers<R, M: Machines> {
         ensures served { StaysServed (serving around.old) (lent around.old)
             (serving around.new) (lent around.new) }
         ensures left { left around.new ≤ left around.old }
-        ensures tools { tools self.new ≡ tools self.old };
+        ensures hart_local { hart_local self.new ≡ hart_local self.old };
 
     /// Tries to enter the child. Inside, returns the task of the child's scheduler.
     fn enter<P: Port>(
@@ -173,7 +173,7 @@ pub trait Schedulers<R, M: Machines> {
         ensures does { HasEntered (P.seen port.old) child result (P.seen port.new) }
         ensures kept { IsPortView (P.seen port.new) }
         ensures account { ForSome result (HasAccount (settled site.new) (owed site.new)) }
-        ensures tools { tools self.new ≡ tools self.old };
+        ensures hart_local { hart_local self.new ≡ hart_local self.old };
 
     /// Gives the hart back from the port's owner, and makes the callback of the scheduler around it.
     fn give_back<P: Port>(&mut self, rt: &R, port: &mut P, hold: P::Hold, around: &mut Self::Site)
@@ -188,7 +188,7 @@ pub trait Schedulers<R, M: Machines> {
         ensures served { StaysServed (serving around.old) (lent around.old)
             (serving around.new) (lent around.new) }
         ensures left { left around.new ≤ left around.old }
-        ensures tools { tools self.new ≡ tools self.old };
+        ensures hart_local { hart_local self.new ≡ hart_local self.old };
 
     /// The next task of the hart. A home gets `Nothing` only if the site's work is done.
     fn next(&mut self, rt: &R, site: &mut Self::Site, is_home: bool) -> Task<M::Job>
@@ -200,7 +200,7 @@ pub trait Schedulers<R, M: Machines> {
         ensures served { Follows (serving site.old) (λ p around start es.
             HasServing (serving site.new p around start es) (λ job.
             lent site.new job p around start es × M.fresh_job p around es job) result) }
-        ensures tools { tools self.new ≡ tools self.old };
+        ensures hart_local { hart_local self.new ≡ hart_local self.old };
 
     /// Gives the site a piece that is done.
     fn deposit(&mut self, rt: &R, alloc: Global, site: &mut Self::Site, piece: M::Piece)
@@ -212,7 +212,7 @@ pub trait Schedulers<R, M: Machines> {
             → M.ran_job p es es' (M.job_in piece)
             → serving site.new p around start es' }
         ensures left { left site.new ≤ left site.old }
-        ensures tools { tools self.new ≡ tools self.old };
+        ensures hart_local { hart_local self.new ≡ hart_local self.old };
 
     /// Reports that an allocation failed for the piece of this phase at this index.
     fn fail(&mut self, rt: &R, site: &mut Self::Site, phase: u8, place: u8)
@@ -223,7 +223,7 @@ pub trait Schedulers<R, M: Machines> {
         ensures served { (job : M.Job) (p : Plan) (around : ℕ) (start es es' : List Entry)
             → lent site.old job p around start es → serving site.new p around start es' }
         ensures left { left site.new ≤ left site.old }
-        ensures tools { tools self.new ≡ tools self.old };
+        ensures hart_local { hart_local self.new ≡ hart_local self.old };
 
     /// Whether a piece of the site has failed.
     fn has_failed(&mut self, rt: &R, site: &Self::Site) -> bool
@@ -232,7 +232,7 @@ pub trait Schedulers<R, M: Machines> {
             → HaveEnded p around es }
         ensures failed { result ≡ true → (p : Plan) (around : ℕ) (start es : List Entry)
             → serving site.now p around start es → failed site.now }
-        ensures tools { tools self.new ≡ tools self.old };
+        ensures hart_local { hart_local self.new ≡ hart_local self.old };
 
     /// The writes of all pieces of a site whose work is done. If the scheduler isn't handed out, the hart computes the
     /// construct itself.
@@ -251,5 +251,5 @@ pub trait Schedulers<R, M: Machines> {
             → serving site p (M.number_of nested)
             (before ++ Register hart (M.number_of nested) ∷ []) es
             → M.ran p before (es ++ Unregister hart (M.number_of nested) ∷ []) nested) }
-        ensures tools { tools self.new ≡ tools self.old };
+        ensures hart_local { hart_local self.new ≡ hart_local self.old };
 }

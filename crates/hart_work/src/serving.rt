@@ -54,7 +54,7 @@ pub fn run_piece<P: PatientPort, R, M: Machines, H: Schedulers<R, M>, F: Fn(u8, 
         (H.lent around.new) }
     ensures construct { H.construct around.new ≡ H.construct around.old }
     ensures left { H.left around.new ≤ H.left around.old }
-    ensures tools { H.tools schedulers.new ≡ H.tools schedulers.old }
+    ensures hart_local { H.hart_local schedulers.new ≡ H.hart_local schedulers.old }
 {
     let mut running = M::start(alloc, job)?;
     'steps: loop {
@@ -119,7 +119,7 @@ pub fn run_construct<P: PatientPort, R, M: Machines, H: Schedulers<R, M>, F: Fn(
         (H.lent around.new) }
     ensures construct { H.construct around.new ≡ H.construct around.old }
     ensures left { H.left around.new ≤ H.left around.old }
-    ensures tools { H.tools schedulers.new ≡ H.tools schedulers.old }
+    ensures hart_local { H.hart_local schedulers.new ≡ H.hart_local schedulers.old }
 {
     let number = M::number(&nested);
     if !tree.is_child(port.owner(), number) {
@@ -181,7 +181,7 @@ pub fn serve<P: PatientPort, R, M: Machines, H: Schedulers<R, M>, F: Fn(u8, &M::
         → H.serving site.new p around start (P.seen port.new).mine) }
     ensures construct { H.construct site.new ≡ H.construct site.old }
     ensures left { H.left site.new ≤ H.left site.old }
-    ensures tools { H.tools schedulers.new ≡ H.tools schedulers.old }
+    ensures hart_local { H.hart_local schedulers.new ≡ H.hart_local schedulers.old }
 {
     'tasks: loop {
         match schedulers.next(rt, site, is_home) {
@@ -217,7 +217,7 @@ fn run_job<P: PatientPort, R, M: Machines, H: Schedulers<R, M>, F: Fn(u8, &M::Jo
         → H.serving site.new p around start (P.seen port.new).mine) }
     ensures construct { H.construct site.new ≡ H.construct site.old }
     ensures left { H.left site.new ≤ H.left site.old }
-    ensures tools { H.tools schedulers.new ≡ H.tools schedulers.old }
+    ensures hart_local { H.hart_local schedulers.new ≡ H.hart_local schedulers.old }
 {
     let (phase, place) = (M::phase(&job), M::place(&job));
     pass(port.hart(), &job);
@@ -251,7 +251,7 @@ fn visit<P: PatientPort, R, M: Machines, H: Schedulers<R, M>, F: Fn(u8, &M::Job)
         (H.lent around.new) }
     ensures construct { H.construct around.new ≡ H.construct around.old }
     ensures left { H.left around.new ≤ H.left around.old }
-    ensures tools { H.tools schedulers.new ≡ H.tools schedulers.old }
+    ensures hart_local { H.hart_local schedulers.new ≡ H.hart_local schedulers.old }
 {
     if !tree.is_child(port.owner(), child) {
         return;
@@ -289,7 +289,7 @@ fn be_guest<P: PatientPort, R, M: Machines, H: Schedulers<R, M>, F: Fn(u8, &M::J
     requires shared { (P.seen port.old).alone ≡ false }
     requires account { HasAccount (H.settled site.old) (H.owed site.old) task }
     ensures back { IsBack (P.seen port.old) (P.seen port.new) }
-    ensures tools { H.tools schedulers.new ≡ H.tools schedulers.old }
+    ensures hart_local { H.hart_local schedulers.new ≡ H.hart_local schedulers.old }
 {
     match task {
         Task::Piece(job) => run_job(rt, alloc, tree, pass, port, hold, schedulers, site, job),
@@ -343,7 +343,7 @@ fn ask<P: PatientPort, R, M: Machines, H: Schedulers<R, M>>(
         (H.lent around.new) }
     ensures construct { H.construct around.new ≡ H.construct around.old }
     ensures left { H.left around.new ≤ H.left around.old }
-    ensures tools { H.tools schedulers.new ≡ H.tools schedulers.old }
+    ensures hart_local { H.hart_local schedulers.new ≡ H.hart_local schedulers.old }
 {
     let count = most.min(tree.plan().harts() - 1);
     if count >= 1 {

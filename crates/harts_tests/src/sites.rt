@@ -16,23 +16,23 @@ use once_cell::race::OnceBox;
 use sample_programs::{
     BOTH_BRANCHES, BOTH_PHASES, TWO_BRANCHES, TWO_PHASES, first_construct, parsed,
 };
-use shared_sites::{Claims, SharedSite, Tools, cells, lines, tools_of};
+use shared_sites::{Claims, HartLocal, SharedSite, cells, hart_locals_of, lines};
 use std::alloc::Global;
 use std::sync::Wait;
 use std::test::Fail;
 use step_eval::Nested;
 
-// The tools of two harts, in their order.
-fn two_tools<'x>(
+// The hart-local states of two harts, in their order.
+fn two_hart_locals<'x>(
     alloc: Global,
     words: &'x Claims,
     claims: Vec<ClaimSeat>,
-) -> Result<(Tools<'x>, Tools<'x>), Fail>
+) -> Result<(HartLocal<'x>, HartLocal<'x>), Fail>
     requires count { vec_len claims ≡ 2 }
     requires all { AreAll words.now.table (map identity claims.items) }
 {
-    let mut tools = tools_of(alloc, words, rows(alloc, 2)?, claims)?;
-    match (tools.pop(), tools.pop()) {
+    let mut hart_local = hart_locals_of(alloc, words, rows(alloc, 2)?, claims)?;
+    match (hart_local.pop(), hart_local.pop()) {
         (Some(first), Some(second)) => Ok((first, second)),
         _ => Err(Fail::new("too few tools")),
     }
@@ -82,10 +82,10 @@ fn by_the_home<'a, 'p, R: Wait, S: InDirectory<'p>>(
     alloc: Global,
     program: &'p Program,
     cells: &'a [OnceBox<S>],
-    tools: Tools<'a>,
+    hart_local: HartLocal<'a>,
 ) -> Result<Overlay, Fail> {
     let nested = first_construct(alloc, program)?;
-    let mut home = HartSchedulers::new(lines(alloc, cells)?, tools, TeamMode::Wait);
+    let mut home = HartSchedulers::new(lines(alloc, cells)?, hart_local, TeamMode::Wait);
     let mut site = Schedulers::<R, JobMachines<'p>>::open(&mut home, alloc, &nested)?;
     home.offer(rt, &site);
     let first = does_a_piece(rt, alloc, &mut home, &mut site);
@@ -107,8 +107,8 @@ fn are_both(written: &Overlay) -> bool {
 fn writes_both<R: Wait>(rt: &R, alloc: Global, program: &Program) -> Result<bool, Fail> {
     let cells = cells::<SharedSite<'_>>(alloc, 1)?;
     let (words, claims) = Claims::new(alloc, &check(alloc, program, 2)?, 2)?;
-    let (tools, _) = two_tools(alloc, &words, claims)?;
-    let written = by_the_home(rt, alloc, program, cells.as_slice(), tools)?;
+    let (hart_local, _) = two_hart_locals(alloc, &words, claims)?;
+    let written = by_the_home(rt, alloc, program, cells.as_slice(), hart_local)?;
     Ok(are_both(&written))
 }
 
@@ -193,9 +193,9 @@ fn by_two<'a, 'p, R: Wait, S: InDirectory<'p>>(
     alloc: Global,
     nested: &Nested<'p>,
     cells: &'a [OnceBox<S>],
-    tools: (Tools<'a>, Tools<'a>),
+    hart_local: (HartLocal<'a>, HartLocal<'a>),
 ) -> Result<Overlay, Fail> {
-    let (first, second) = tools;
+    let (first, second) = hart_local;
     let mut home = HartSchedulers::new(lines(alloc, cells)?, first, TeamMode::Wait);
     let mut guest = HartSchedulers::new(lines(alloc, cells)?, second, TeamMode::Wait);
     with_a_guest(rt, alloc, nested, &mut home, &mut guest)
@@ -205,9 +205,9 @@ fn by_two<'a, 'p, R: Wait, S: InDirectory<'p>>(
 fn shares_both<R: Wait>(rt: &R, alloc: Global, program: &Program) -> Result<bool, Fail> {
     let cells = cells::<SharedSite<'_>>(alloc, 1)?;
     let (words, claims) = Claims::new(alloc, &check(alloc, program, 2)?, 2)?;
-    let tools = two_tools(alloc, &words, claims)?;
+    let hart_local = two_hart_locals(alloc, &words, claims)?;
     let nested = first_construct(alloc, program)?;
-    let written = by_two(rt, alloc, &nested, cells.as_slice(), tools)?;
+    let written = by_two(rt, alloc, &nested, cells.as_slice(), hart_local)?;
     Ok(are_both(&written))
 }
 
@@ -225,11 +225,11 @@ fn untouched<'a, 'p, R: Wait, S: InDirectory<'p>>(
     alloc: Global,
     program: &'p Program,
     cells: &'a [OnceBox<S>],
-    tools: Tools<'a>,
+    hart_local: HartLocal<'a>,
     members: TeamMode,
 ) -> Result<(Overlay, u8), Fail> {
     let nested = first_construct(alloc, program)?;
-    let mut home = HartSchedulers::new(lines(alloc, cells)?, tools, members);
+    let mut home = HartSchedulers::new(lines(alloc, cells)?, hart_local, members);
     let site = Schedulers::<R, JobMachines<'p>>::open(&mut home, alloc, &nested)?;
     let wishes = Schedulers::<R, JobMachines<'p>>::wishes(&home, &site);
     Ok((home.take(rt, alloc, site)?, wishes))
@@ -246,8 +246,8 @@ fn takes<R: Wait>(
 ) -> Result<bool, Fail> {
     let cells = cells::<SharedSite<'_>>(alloc, 1)?;
     let (words, claims) = Claims::new(alloc, &check(alloc, program, 2)?, 2)?;
-    let (tools, _) = two_tools(alloc, &words, claims)?;
-    let (written, wishes) = untouched(rt, alloc, program, cells.as_slice(), tools, members)?;
+    let (hart_local, _) = two_hart_locals(alloc, &words, claims)?;
+    let (written, wishes) = untouched(rt, alloc, program, cells.as_slice(), hart_local, members)?;
     Ok(wishes == harts && written.pairs() == expected)
 }
 
@@ -300,7 +300,7 @@ fn a_team_whose_pieces_cross_is_computed_by_its_home(rt: HostRuntime) -> Result<
 fn requests_no_hart<R: Wait>(rt: &R, alloc: Global, program: &Program) -> Result<bool, Fail> {
     let cells = cells::<SharedSite<'_>>(alloc, 1)?;
     let (words, claims) = Claims::new(alloc, &check(alloc, program, 2)?, 2)?;
-    let (first, second) = two_tools(alloc, &words, claims)?;
+    let (first, second) = two_hart_locals(alloc, &words, claims)?;
     let slice = cells.as_slice();
     let (_, one) = untouched(rt, alloc, program, slice, first, TeamMode::Wait)?;
     let (written, none) = untouched(rt, alloc, program, slice, second, TeamMode::Wait)?;

@@ -3,7 +3,7 @@ use Rattle.std.proofs.Common.{◌≡◌, ℕ, suc, ◌+◌, inl, inr, ⊎_elim, 
 use Rattle.transfer_table.specs.Plan.{Plan}
 use Rattle.array_meaning.specs.Plans.{AreInside, AreOutside}
 use Rattle.array_meaning.proofs.NestingLemmas.{later_parts_are_outside}
-use Rattle.meant_sites.specs.Meant.{HasPartFrom}
+use Rattle.entered_laws.specs.Meant.{HasPartFrom}
 use Rattle.job_machines.proofs.ParentLemmas.{Cuts}
 
 inside_first : (around s : ℕ) (a b : List ℕ) → AreInside around s (a ++ b) → AreInside around s a

@@ -3,7 +3,7 @@ use Rattle.std.proofs.Common.{◌≡◌, ℕ, ◌+◌, ◌-◌, inl, inr, List, 
 use Rattle.array_meaning.specs.Stores.{Store, arrays_of}
 use Rattle.array_meaning.specs.Plans.{statement_sites_in}
 use Rattle.array_meaning.specs.Pieces.{IsMember}
-use Rattle.meant_sites.proofs.Parts.{entered_is_complete}
+use Rattle.entered_laws.proofs.Parts.{entered_is_complete}
 use Rattle.transfer_table.proofs.Algebra.{all_are_fresh_at_first}
 use Rattle.array_jobs.specs.Works.{WorkTree, sites_of}
 use Rattle.array_jobs.specs.Jobs.{JobTree}

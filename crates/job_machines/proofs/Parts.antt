@@ -11,8 +11,8 @@ use Rattle.array_meaning.specs.Plans.{StayInside, sequence_parents, sites_in, st
 use Rattle.array_meaning.specs.Pieces.{IsMember}
 use Rattle.array_meaning.proofs.NestingLemmas.{stay_inside_parts}
 use Rattle.array_meaning.proofs.PlanLemmas.{sequence_length}
-use Rattle.meant_sites.specs.Meant.{HasPartFrom}
-use Rattle.meant_sites.proofs.Parts.{parts_are_spans, programs_are_parts}
+use Rattle.entered_laws.specs.Meant.{HasPartFrom}
+use Rattle.entered_laws.proofs.Parts.{parts_are_spans, programs_are_parts}
 use Rattle.array_jobs.specs.Works.{WorkTree, branch_of, member_of, sites_of}
 use Rattle.array_jobs.specs.Jobs.{JobTree}
 use Rattle.step_eval.specs.Rest.{WorkAt, before}

@@ -10,7 +10,7 @@ use Rattle.array_tree.specs.Trees.{ProgramTree}
 use Rattle.array_meaning.specs.Stores.{arrays_of}
 use Rattle.array_meaning.specs.Plans.{plan_of, statement_sites_in}
 use Rattle.array_meaning.specs.Entered.{entered_of, statement_entered}
-use Rattle.meant_sites.specs.Meant.{HasPartFrom}
+use Rattle.entered_laws.specs.Meant.{HasPartFrom}
 use Rattle.array_jobs.specs.Works.{sites_of}
 use Rattle.array_jobs.specs.Jobs.{JobParts, JobTree, job_of}
 use Rattle.array_jobs.specs.Bodies.{body_of}

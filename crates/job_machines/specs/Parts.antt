@@ -6,7 +6,7 @@ use Rattle.array_tree.specs.Trees.{Statement, ProgramTree}
 use Rattle.array_meaning.specs.Stores.{Arrays, Store}
 use Rattle.array_meaning.specs.Plans.{plan_of, statement_sites_in}
 use Rattle.array_meaning.specs.Pieces.{IsMember}
-use Rattle.meant_sites.specs.Meant.{HasPartFrom}
+use Rattle.entered_laws.specs.Meant.{HasPartFrom}
 use Rattle.array_jobs.specs.Works.{sites_of}
 use Rattle.array_jobs.specs.Jobs.{JobTree}
 use Rattle.array_jobs.specs.Bodies.{body_of}

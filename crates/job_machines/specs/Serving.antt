@@ -7,7 +7,7 @@ use Rattle.transfer_table.specs.declared.entry.Entry.TheVariants.{Register, Unre
 use Rattle.array_meaning.specs.Stores.{arrays_of}
 use Rattle.array_meaning.specs.Plans.{statement_sites_in}
 use Rattle.array_meaning.specs.Pieces.{IsMember}
-use Rattle.meant_sites.specs.Meant.{HasPartFrom}
+use Rattle.entered_laws.specs.Meant.{HasPartFrom}
 use Rattle.array_jobs.specs.Jobs.{JobTree}
 use Rattle.step_eval.specs.Nests.{NestedTree, phases_of, jobs_in, IsFitNest}
 use Rattle.step_eval.specs.Phases.{store_before}

@@ -1,7 +1,7 @@
 //! The sites of a machine's works, of the constructs that it hands out and of their jobs are whole subtrees of the plan. So a
 //! hart that skips them skips complete subtrees.
 //!
-//! Begin with `specs/Parts.antt`; `meant_sites` defines parts, and the tests of `piece_tests` step machines over such sites.
+//! Begin with `specs/Parts.antt`; `entered_laws` defines parts, and the tests of `piece_tests` step machines over such sites.
 
 ghost use Rattle.job_machines.specs.Parts.{WorksStayParts, WholeWorksArePassed, PassesAreSpans, ConstructsAreParts, JobsAreParts, BodiesAreParts};
 

@@ -36,10 +36,10 @@ impl<'p, R> Schedulers<R, JobMachines<'p>> for LoneSchedulers<'p> {
 
     type Site = LoneSite<'p>;
 
-    // The hart was lent no tools.
-    type Tools = ();
+    // The hart was lent no hart-local state.
+    type HartLocal = ();
 
-    ghost tools = { λ _. tt };
+    ghost hart_local = { λ _. tt };
 
     ghost keeps = { Unit {0} };
 

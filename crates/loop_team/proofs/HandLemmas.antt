@@ -8,11 +8,11 @@ use Rattle.step_eval.specs.Nests.{NestedParts}
 use Rattle.claim_words.specs.declared.seat.ClaimSeat.{ClaimSeat}
 use Rattle.claim_words.specs.declared.claimed.Claimed.{Claimed}
 use Rattle.claim_words.specs.declared.claimed.Claimed.TheVariants.{Member, NoneLeft}
-use Rattle.claim_words.specs.declared.sight.Look.{Look}
-use Rattle.claim_words.specs.declared.sight.LookKind.{LookKind}
-use Rattle.claim_words.specs.declared.sight.LookKind.TheVariants as kind
+use Rattle.claim_words.specs.declared.seat_view.Look.{Look}
+use Rattle.claim_words.specs.declared.seat_view.LookKind.{LookKind}
+use Rattle.claim_words.specs.declared.seat_view.LookKind.TheVariants as kind
 use Rattle.claim_words.specs.Claims.{look}
-use Rattle.claim_words.specs.Seats.{identity, sight}
+use Rattle.claim_words.specs.Seats.{identity, seat_view}
 use Rattle.hart_port.specs.Count.{Rose}
 use Rattle.sched_api.specs.declared.scheduler.Next.{Next}
 use Rattle.sched_api.specs.declared.scheduler.Next.TheVariants.{Run, Lend, Nothing}
@@ -65,8 +65,8 @@ module _ {R : Type 0} where
   looked_on : (before after : TeamHand R) → HasLooked before after → HasGoneOn before after
   looked_on before after looked = record {
     same = looked_same before after looked;
-    read = ([], ap (λ (s : MutBor ClaimSeat). (sight s.now).looks) looked.seat ∙ sym (append-nil _));
-    claimed = ([], ap (λ (s : MutBor ClaimSeat). (sight s.now).claimed) looked.seat ∙ sym (append-nil _));
+    read = ([], ap (λ (s : MutBor ClaimSeat). (seat_view s.now).looks) looked.seat ∙ sym (append-nil _));
+    claimed = ([], ap (λ (s : MutBor ClaimSeat). (seat_view s.now).claimed) looked.seat ∙ sym (append-nil _));
     looks = rose_least before.looks after.looks looked.looked;
   }
 
@@ -104,9 +104,9 @@ module _ {R : Type 0} where
       phase = subst (λ n. n < phases_in before.shared.now) (sym same_phase) there;
       place = (let below = tried.gives.0 in let count = fits.same phase there in omega (arith, below, count, same_place));
       earlier = [];
-      claimed = tried.gives.1 ∙ ap (λ l. l ++ (before.row + phase, m) ∷ []) (sym (append-nil (sight before.seat.now).claimed))
-          ∙ ap (λ n. ((sight before.seat.now).claimed ++ []) ++ (before.row + n, m) ∷ []) (sym same_phase)
-          ∙ ap (λ n. ((sight before.seat.now).claimed ++ []) ++ (before.row + job.phase, n) ∷ []) (sym same_place);
+      claimed = tried.gives.1 ∙ ap (λ l. l ++ (before.row + phase, m) ∷ []) (sym (append-nil (seat_view before.seat.now).claimed))
+          ∙ ap (λ n. ((seat_view before.seat.now).claimed ++ []) ++ (before.row + n, m) ∷ []) (sym same_phase)
+          ∙ ap (λ n. ((seat_view before.seat.now).claimed ++ []) ++ (before.row + job.phase, n) ∷ []) (sym same_place);
     });
   }
 
@@ -115,16 +115,16 @@ module _ {R : Type 0} where
       phase < phases_in before.shared.now → HasTried before phase (NoneLeft shown) mid → HasLooked mid after → NoneWasLeft before after
   none_left before mid after phase shown fits there tried looked = at tried.gives.2
     where
-      last : (sight after.seat.now).looks ≡ (sight mid.seat.now).looks
-      last = ap (λ (s : MutBor ClaimSeat). (sight s.now).looks) looked.seat
+      last : (seat_view after.seat.now).looks ≡ (seat_view mid.seat.now).looks
+      last = ap (λ (s : MutBor ClaimSeat). (seat_view s.now).looks) looked.seat
 
       full : members_in before.shared.now ≤ shown
       full = (let most = tried.gives.0 in let count = fits.same phase there in omega (arith, most, count))
 
-      told : (earlier : List Look) (k : LookKind) → (sight mid.seat.now).looks ≡ ((sight before.seat.now).looks ++ earlier) ++ look (before.row + phase) k shown ∷ [] → NoneWasLeft before after
+      told : (earlier : List Look) (k : LookKind) → (seat_view mid.seat.now).looks ≡ ((seat_view before.seat.now).looks ++ earlier) ++ look (before.row + phase) k shown ∷ [] → NoneWasLeft before after
       told earlier k read = record { phase = phase; there = there; earlier = earlier; kind = k; shown = shown; full = full; looks = last ∙ read }
 
-      at : ReadLast (before.row + phase) (slice_index before.claims.now.counts.items (before.row + phase)) shown (sight before.seat.now).looks (sight mid.seat.now).looks → NoneWasLeft before after
+      at : ReadLast (before.row + phase) (slice_index before.claims.now.counts.items (before.row + phase)) shown (seat_view before.seat.now).looks (seat_view mid.seat.now).looks → NoneWasLeft before after
       at (inl read) = told [] kind.Look (read ∙ ap (λ l. l ++ look (before.row + phase) kind.Look shown ∷ []) (sym (append-nil _)))
       at (inr drew) = told (look (before.row + phase) kind.Look drew.0 ∷ []) kind.Draw (drew.2 ∙ sym (append_assoc _ (look (before.row + phase) kind.Look drew.0 ∷ []) _))
 
@@ -153,7 +153,7 @@ module _ {R : Type 0} where
     looks = (let e = tried.looks in omega (arith, e));
   }
     where
-      read : ReadLast (before.row + phase) (slice_index before.claims.now.counts.items (before.row + phase)) shown (sight before.seat.now).looks (sight after.seat.now).looks → (more : List Look) × ((sight after.seat.now).looks ≡ (sight before.seat.now).looks ++ more)
+      read : ReadLast (before.row + phase) (slice_index before.claims.now.counts.items (before.row + phase)) shown (seat_view before.seat.now).looks (seat_view after.seat.now).looks → (more : List Look) × ((seat_view after.seat.now).looks ≡ (seat_view before.seat.now).looks ++ more)
       read (inl one) = (look (before.row + phase) kind.Look shown ∷ [], one)
       read (inr two) = (look (before.row + phase) kind.Look two.0 ∷ look (before.row + phase) kind.Draw shown ∷ [], two.2)
 
@@ -203,7 +203,7 @@ module _ {R : Type 0} where
     kind = none.kind;
     shown = none.shown;
     full = (let e = ap (λ (s : Bor NestedParts). members_in s.now) gone.same.team in let f = none.full in omega (arith, e, f));
-    looks = grown_last _ _ _ _ _ _ gone.read.1 none.looks ∙ ap (λ r. ((sight before.seat.now).looks ++ (gone.read.0 ++ none.earlier)) ++ look (r + none.phase) none.kind none.shown ∷ []) gone.same.row;
+    looks = grown_last _ _ _ _ _ _ gone.read.1 none.looks ∙ ap (λ r. ((seat_view before.seat.now).looks ++ (gone.read.0 ++ none.earlier)) ++ look (r + none.phase) none.kind none.shown ∷ []) gone.same.row;
   }
 
   later_claimed : (before mid after : TeamHand R) (job : JobParts) → HasGoneOn before mid → HasClaimed mid job after → HasClaimed before job after
@@ -212,7 +212,7 @@ module _ {R : Type 0} where
     phase = (let e = ap (λ (s : Bor NestedParts). phases_in s.now) gone.same.team in let t = has.phase in omega (arith, e, t));
     place = (let e = ap (λ (s : Bor NestedParts). members_in s.now) gone.same.team in let t = has.place in omega (arith, e, t));
     earlier = gone.claimed.0 ++ has.earlier;
-    claimed = grown_last _ _ _ _ _ _ gone.claimed.1 has.claimed ∙ ap (λ r. ((sight before.seat.now).claimed ++ (gone.claimed.0 ++ has.earlier)) ++ (r + job.phase, job.place) ∷ []) gone.same.row;
+    claimed = grown_last _ _ _ _ _ _ gone.claimed.1 has.claimed ∙ ap (λ r. ((seat_view before.seat.now).claimed ++ (gone.claimed.0 ++ has.earlier)) ++ (r + job.phase, job.place) ∷ []) gone.same.row;
   }
 
   pub later_enters : (before mid after : TeamHand R) (next : Next TeamWork) → HasGoneOn before mid → Enters mid next after → Enters before next after

@@ -1,10 +1,10 @@
 -- The calls of a hart's hand on a shared team. A look is one read of the team under its lock.
 use Rattle.std.specs.Prelude.{◌≡◌, ◌⊎◌, ℕ, ◌+◌, ◌<◌, ◌≤◌, List, [], ◌∷◌, ◌++◌, Option, Some, None}
 use Rattle.array_jobs.specs.Jobs.{JobParts}
-use Rattle.claim_words.specs.declared.sight.Look.{Look}
-use Rattle.claim_words.specs.declared.sight.LookKind.{LookKind}
+use Rattle.claim_words.specs.declared.seat_view.Look.{Look}
+use Rattle.claim_words.specs.declared.seat_view.LookKind.{LookKind}
 use Rattle.claim_words.specs.Claims.{look}
-use Rattle.claim_words.specs.Seats.{identity, sight, ClaimGives}
+use Rattle.claim_words.specs.Seats.{identity, seat_view, ClaimGives}
 use Rattle.claim_words.specs.declared.claimed.Claimed.{Claimed}
 use Rattle.hart_port.specs.Count.{Rose}
 use Rattle.sched_api.specs.declared.scheduler.Next.{Next}
@@ -37,7 +37,7 @@ pub record HasClaimed {R : Type 0} (before : TeamHand R) (job : JobParts)
   pub phase : job.phase < phases_in before.shared.now
   pub place : job.place < members_in before.shared.now
   pub earlier : List (ℕ × ℕ)
-  pub claimed : (sight after.seat.now).claimed ≡ ((sight before.seat.now).claimed ++ earlier)
+  pub claimed : (seat_view after.seat.now).claimed ≡ ((seat_view before.seat.now).claimed ++ earlier)
       ++ (before.row + job.phase, job.place) ∷ []
 
 -- The word that the seat read last is the claim counter of a phase, and shows at least as many claims as the phase has members.
@@ -48,7 +48,7 @@ pub record NoneWasLeft {R : Type 0} (before after : TeamHand R) : Type 0 where
   pub kind : LookKind
   pub shown : ℕ
   pub full : members_in before.shared.now ≤ shown
-  pub looks : (sight after.seat.now).looks ≡ ((sight before.seat.now).looks ++ earlier)
+  pub looks : (seat_view after.seat.now).looks ≡ ((seat_view before.seat.now).looks ++ earlier)
       ++ look (before.row + phase) kind shown ∷ []
 
 -- The work that runs was found under the lock, or is a member that was claimed.
@@ -95,9 +95,9 @@ pub record HasTried {R : Type 0} (before : TeamHand R) (phase : ℕ) (answer : C
 pub record HasGoneOn {R : Type 0} (before after : TeamHand R) : Type 0 where
   pub same : IsSameHand before after
   pub read : (more : List Look)
-      × ((sight after.seat.now).looks ≡ (sight before.seat.now).looks ++ more)
+      × ((seat_view after.seat.now).looks ≡ (seat_view before.seat.now).looks ++ more)
   pub claimed : (more : List (ℕ × ℕ))
-      × ((sight after.seat.now).claimed ≡ (sight before.seat.now).claimed ++ more)
+      × ((seat_view after.seat.now).claimed ≡ (seat_view before.seat.now).claimed ++ more)
   pub looks : before.looks ≤ after.looks
 
 -- A turn of `enter`: it has a result, or the hand looks again.

@@ -6,7 +6,7 @@ use Rattle.array_tree.specs.Trees.{ProgramTree}
 use Rattle.array_meaning.specs.Entered.{entered_of}
 use Rattle.array_meaning.specs.Plans.{plan_of, sites_in}
 use Rattle.array_meaning.specs.Work.{final_store}
-use Rattle.meant_sites.proofs.Parts.{every_site_has_a_flag}
+use Rattle.entered_laws.proofs.Parts.{every_site_has_a_flag}
 use Rattle.disjoint_check.specs.LimitFault.{room_for}
 use Rattle.disjoint_check.proofs.PlanLaws.{plan_right}
 use Rattle.run_audit.proofs.Found.{legal_outputs}

@@ -1,3 +1,3 @@
 pub mod ClaimRows
-pub mod Stocks
+pub mod HartLocals
 pub mod Crossings

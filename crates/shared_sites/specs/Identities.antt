@@ -1,14 +1,14 @@
--- The identities of a hart's tools.
+-- The identities of a hart-local state.
 use Rattle.deque_rows.specs.declared.hart.HartRows.{HartRows}
 use Rattle.deque_rows.specs.Rows as rows
 use Rattle.claim_words.specs.declared.seat.ClaimSeat.{ClaimSeat}
 use Rattle.claim_words.specs.Seats as seats
 
 -- The identities of a hart's deques and of its seat, which no call changes.
-pub record ToolIdentities : Type 0 where
+pub record HartLocalIdentities : Type 0 where
   pub rows : rows.Identity
   pub seat : seats.SeatIdentity
 
 -- The identities of deques and of a seat.
-abbrev pub kins_of : HartRows → ClaimSeat → ToolIdentities
+abbrev pub kins_of : HartRows → ClaimSeat → HartLocalIdentities
 kins_of own seat = record { rows = rows.identity own; seat = seats.identity seat }

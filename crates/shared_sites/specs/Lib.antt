@@ -3,5 +3,5 @@ pub mod Identities
 pub mod Places
 pub mod Hands
 pub mod Told
-pub mod Stocks
+pub mod HartLocals
 pub mod Facts

@@ -7,7 +7,7 @@ use Rattle.shared_sites.specs.declared.scheduler_ref.PoolPlace.{PoolPlace}
 use Rattle.shared_sites.specs.declared.scheduler_ref.TeamPlace.{TeamPlace}
 use Rattle.shared_sites.specs.declared.scheduler_ref.SchedulerRef.{SchedulerRef}
 use Rattle.shared_sites.specs.declared.scheduler_ref.SchedulerRef.TheVariants.{Base, Pool, Team, Pipe, NoScheduler}
-use Rattle.shared_sites.specs.Identities.{ToolIdentities}
+use Rattle.shared_sites.specs.Identities.{HartLocalIdentities}
 
 -- There is a deque of this home and level.
 abbrev pub PoolFits : Identity → PoolPlace → Type 0
@@ -18,8 +18,8 @@ abbrev pub TeamFits : SeatIdentity → TeamPlace → Type 0
 TeamFits k place = IsOf place.claims.now k
     × RowsFit place.claims.now.counts.items place.row place.team.now
 
--- The reference to a scheduler fits the tools: a pool its deques, and a team its seat.
-abbrev pub Fits : ToolIdentities → SchedulerRef → Type 0
+-- The reference to a scheduler fits the hart-local state: a pool its deques, and a team its seat.
+abbrev pub Fits : HartLocalIdentities → SchedulerRef → Type 0
 Fits k (Base base) = Unit {0}
 Fits k (Pool place) = PoolFits k.rows place
 Fits k (Team place) = TeamFits k.seat place

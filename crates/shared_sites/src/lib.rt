@@ -4,10 +4,10 @@
 //! find it. Each hart reads a cell through a note of its own, so that it never finds another scheduler there than before.
 //!
 //! A hart brings its own access to the deques and its own seat of the claim table (`Claims`) to each shared scheduler; these
-//! are its `Tools`. With them it makes its `Hand` on the scheduler of a site, which its `SchedulerRef` names. It doesn't use a
+//! are its `HartLocal`. With them it makes its `Hand` on the scheduler of a site, which its `SchedulerRef` names. It doesn't use a
 //! scheduler for which it has no deque or counters.
 //!
-//! `hart_loop` accesses shared schedulers only by this crate. Begin with `SiteCell` in `directory.rt`, `Tools` in `tools.rt` and
+//! `hart_loop` accesses shared schedulers only by this crate. Begin with `SiteCell` in `directory.rt`, `HartLocal` in `hart_local.rt` and
 //! `SchedulerRef` in `scheduler_ref.rt`; the tests of `shared_tests` publish and find schedulers, those of `harts_tests` run whole programs.
 #![tactic(auto)]
 
@@ -16,9 +16,9 @@ mod claims;
 mod completed;
 mod directory;
 mod hand;
+mod hart_local;
 mod scheduler_ref;
 mod shared_site;
-mod tools;
 mod work;
 
 pub use calls::HandHeard;
@@ -26,6 +26,6 @@ pub use claims::Claims;
 pub use completed::Completed;
 pub use directory::{SiteCell, cells, lines};
 pub use hand::Hand;
+pub use hart_local::{HartLocal, hart_locals_of};
 pub use scheduler_ref::{PoolPlace, SchedulerRef, TeamPlace};
 pub use shared_site::SharedSite;
-pub use tools::{Tools, tools_of};

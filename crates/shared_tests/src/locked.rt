@@ -19,7 +19,7 @@ use once_cell::race::OnceBox;
 use sample_programs::{
     BOTH_BRANCHES, BOTH_PHASES, TWO_BRANCHES, TWO_PHASES, first_construct, parsed,
 };
-use shared_sites::{Claims, SharedSite, SiteCell, Tools, cells, lines, tools_of};
+use shared_sites::{Claims, HartLocal, SharedSite, SiteCell, cells, hart_locals_of, lines};
 use site_steps::{SiteTree, WaitingPort};
 use std::alloc::Global;
 use std::sync::{Mutex, Wait};
@@ -37,7 +37,7 @@ fn hart<'x, 'p: 'x, R: Threads + Wait + Sync>(
     number: u8,
     base: &'x SharedBase,
     cells: &'x [OnceBox<SharedSite<'p>>],
-    tools: Tools<'x>,
+    hart_local: HartLocal<'x>,
     job: Option<Job<'p>>,
 ) -> Result<Hart<'x, 'p, WaitingPort<'x, LockedPort<'x, R>, R>, SharedSite<'p>>, Fail>
     requires hart { IsHart plan.now number }
@@ -45,7 +45,7 @@ fn hart<'x, 'p: 'x, R: Threads + Wait + Sync>(
     ensures { IfOk result (λ hart. StartsIn plan.now hart.port.port.view) }
 {
     let port = WaitingPort::new(LockedPort::new(alloc, lock, plan, number)?, rt);
-    let schedulers = HartSchedulers::new(lines(alloc, cells)?, tools, TeamMode::Wait);
+    let schedulers = HartSchedulers::new(lines(alloc, cells)?, hart_local, TeamMode::Wait);
     Ok(Hart {
         port,
         schedulers,
@@ -55,9 +55,9 @@ fn hart<'x, 'p: 'x, R: Threads + Wait + Sync>(
     })
 }
 
-// The tools of the first hart that has none yet.
-fn next_tools<'x>(tools: &mut Vec<Tools<'x>>) -> Result<Tools<'x>, Fail> {
-    Ok(tools.pop().ok_or("too few tools")?)
+// The hart-local state of the first hart that has none yet.
+fn next_hart_local<'x>(hart_local: &mut Vec<HartLocal<'x>>) -> Result<HartLocal<'x>, Fail> {
+    Ok(hart_local.pop().ok_or("too few tools")?)
 }
 
 // A hart for each of the plan's. The first has the job, and is last in the list.
@@ -68,17 +68,17 @@ fn crew<'x, 'p: 'x, R: Threads + Wait + Sync>(
     plan: &'x Plan,
     base: &'x SharedBase,
     cells: &'x [OnceBox<SharedSite<'p>>],
-    mut tools: Vec<Tools<'x>>,
+    mut hart_local: Vec<HartLocal<'x>>,
     job: Job<'p>,
 ) -> Result<Vec<Hart<'x, 'p, WaitingPort<'x, LockedPort<'x, R>, R>, SharedSite<'p>>>, Fail>
     requires { plan.now.harts ≤ 4 }
     ensures { IfOk result (λ harts.
         All (λ hart. StartsIn plan.now hart.port.port.view) harts.items) }
 {
-    let first = next_tools(&mut tools)?;
+    let first = next_hart_local(&mut hart_local)?;
     let mut harts = Vec::with_capacity(alloc, usize::from(plan.harts()))?;
     for number in 1..plan.harts() {
-        let own = next_tools(&mut tools)?;
+        let own = next_hart_local(&mut hart_local)?;
         harts.push(hart(rt, alloc, lock, plan, number, base, cells, own, None)?)?;
     }
     harts.push(hart(rt, alloc, lock, plan, 0, base, cells, first, Some(job))?)?;
@@ -121,29 +121,38 @@ fn run_body<'x, 'p: 'x, R: Threads + Wait + Sync>(
     lock: &'x Mutex<Ledger>,
     base: &'x SharedBase,
     cells: &'x [OnceBox<SharedSite<'p>>],
-    tools: Vec<Tools<'x>>,
+    hart_local: Vec<HartLocal<'x>>,
 ) -> Result<Piece<'p>, Fail>
     requires { accepted.now.plan.harts ≤ 4 }
 {
     let tree = SiteTree::new(alloc, accepted.plan())?;
     let job = body_job(alloc, accepted.program())?;
-    let mut harts = crew(rt, alloc, lock, accepted.plan(), base, cells, tools, job)?;
+    let mut harts = crew(
+        rt,
+        alloc,
+        lock,
+        accepted.plan(),
+        base,
+        cells,
+        hart_local,
+        job,
+    )?;
     run_each(rt, alloc, &tree, &|_, _, _, _| {}, harts.as_mut_slice());
     Ok(last_piece(harts.as_mut_slice()).ok_or("want of memory")?)
 }
 
-// The tools of so many harts.
-fn all_tools<'x>(
+// The hart-local states of so many harts.
+fn all_hart_locals<'x>(
     alloc: Global,
     words: &'x Claims,
     claims: Vec<ClaimSeat>,
     harts: u8,
-) -> Result<Vec<Tools<'x>>, Fail>
+) -> Result<Vec<HartLocal<'x>>, Fail>
     requires harts { (1 ≤ harts) × (harts ≤ 16) }
     requires count { vec_len claims ≡ harts }
     requires all { AreAll words.now.table (map identity claims.items) }
 {
-    Ok(tools_of(alloc, words, rows(alloc, harts)?, claims)?)
+    Ok(hart_locals_of(alloc, words, rows(alloc, harts)?, claims)?)
 }
 
 // Whether the program's body writes these cells.
@@ -161,8 +170,8 @@ fn body_writes<'x, 'p: 'x, R: Threads + Wait + Sync>(
     requires few { accepted.now.plan.harts ≤ 4 }
 {
     let (words, claims) = Claims::new(alloc, accepted, harts)?;
-    let tools = all_tools(alloc, &words, claims, harts)?;
-    let piece = run_body(rt, alloc, accepted, lock, base, cells, tools)?;
+    let hart_local = all_hart_locals(alloc, &words, claims, harts)?;
+    let piece = run_body(rt, alloc, accepted, lock, base, cells, hart_local)?;
     Ok(piece.written.pairs() == written)
 }
 
@@ -221,18 +230,18 @@ fn harts_move_by_locked_ports(rt: HostRuntime) -> Result<(), Fail> {
     Ok(())
 }
 
-// The tools of two harts.
-fn two_tools<'x>(
+// The hart-local states of two harts.
+fn two_hart_locals<'x>(
     alloc: Global,
     words: &'x Claims,
     claims: Vec<ClaimSeat>,
-) -> Result<(Tools<'x>, Tools<'x>), Fail>
+) -> Result<(HartLocal<'x>, HartLocal<'x>), Fail>
     requires count { vec_len claims ≡ 2 }
     requires all { AreAll words.now.table (map identity claims.items) }
 {
-    let mut tools = all_tools(alloc, words, claims, 2)?;
-    let first = next_tools(&mut tools)?;
-    Ok((first, next_tools(&mut tools)?))
+    let mut hart_local = all_hart_locals(alloc, words, claims, 2)?;
+    let first = next_hart_local(&mut hart_local)?;
+    Ok((first, next_hart_local(&mut hart_local)?))
 }
 
 // The first hart runs the complete body, without another hart.
@@ -244,7 +253,7 @@ fn run_whole<'x, 'p: 'x, R: Threads + Wait + Sync>(
     lock: &'x Mutex<Ledger>,
     base: &'x SharedBase,
     cells: &'x [OnceBox<SharedSite<'p>>],
-    tools: Tools<'x>,
+    hart_local: HartLocal<'x>,
 ) -> Result<(), Fail>
     requires some { 0 < accepted.now.plan.harts }
     requires few { accepted.now.plan.harts ≤ 4 }
@@ -259,7 +268,7 @@ fn run_whole<'x, 'p: 'x, R: Threads + Wait + Sync>(
         0,
         base,
         cells,
-        tools,
+        hart_local,
         Some(job),
     )?;
     work(rt, alloc, tree, &|_, _, _, _| {}, rt, &mut first);
@@ -276,7 +285,7 @@ fn run_first<'x, 'p: 'x, R: Threads + Wait + Sync>(
     lock: &'x Mutex<Ledger>,
     base: &'x SharedBase,
     cells: &'x [OnceBox<SharedSite<'p>>],
-    tools: Tools<'x>,
+    hart_local: HartLocal<'x>,
 ) -> Result<Overlay, Fail>
     requires second { 1 < plan.now.harts }
     requires few { plan.now.harts ≤ 4 }
@@ -284,7 +293,7 @@ fn run_first<'x, 'p: 'x, R: Threads + Wait + Sync>(
 {
     let nested = first_construct(alloc, program)?;
     let mut port = WaitingPort::new(LockedPort::new(alloc, lock, plan, 1)?, rt);
-    let mut schedulers = HartSchedulers::new(lines(alloc, cells)?, tools, TeamMode::Wait);
+    let mut schedulers = HartSchedulers::new(lines(alloc, cells)?, hart_local, TeamMode::Wait);
     let mut around: HartSite<'x, 'p, SharedSite<'p>> = HartSite::base(base);
     Ok(run_construct(
         rt,
@@ -309,20 +318,20 @@ fn writes_late<'x, 'p: 'x, R: Threads + Wait + Sync>(
     lock: &'x Mutex<Ledger>,
     base: &'x SharedBase,
     cells: &'x [OnceBox<SharedSite<'p>>],
-    tools: (Tools<'x>, Tools<'x>),
+    hart_local: (HartLocal<'x>, HartLocal<'x>),
 ) -> Result<bool, Fail>
     requires second { 1 < accepted.now.plan.harts }
     requires few { accepted.now.plan.harts ≤ 4 }
 {
     let plan = accepted.plan();
     let tree = SiteTree::new(alloc, plan)?;
-    let (own, others) = tools;
+    let (own, others) = hart_local;
     run_whole(rt, alloc, accepted, &tree, lock, base, cells, own)?;
     let written = run_first(rt, alloc, program, plan, &tree, lock, base, cells, others)?;
     Ok(written.pairs() == BOTH_BRANCHES.as_slice())
 }
 
-// The same with tools of a run of two harts.
+// The same with hart-local states of a run of two harts.
 fn is_computed<R: Threads + Wait + Sync>(
     rt: &R,
     alloc: Global,
@@ -335,8 +344,10 @@ fn is_computed<R: Threads + Wait + Sync>(
     let base = SharedBase::new(Base::new(alloc, accepted.plan().sites())?);
     let cells = cells(alloc, accepted.plan().sites())?;
     let (words, claims) = Claims::new(alloc, accepted, 2)?;
-    let tools = two_tools(alloc, &words, claims)?;
-    writes_late(rt, alloc, program, accepted, lock, &base, &cells, tools)
+    let hart_local = two_hart_locals(alloc, &words, claims)?;
+    writes_late(
+        rt, alloc, program, accepted, lock, &base, &cells, hart_local,
+    )
 }
 
 #[test]
@@ -354,10 +365,10 @@ fn open_first<'x, 'p: 'x, R: Wait>(
     alloc: Global,
     program: &'p Program,
     lines: Vec<SiteCell<'x, SharedSite<'p>>>,
-    tools: Tools<'x>,
+    hart_local: HartLocal<'x>,
 ) -> Result<(), Fail> {
     let nested = first_construct(alloc, program)?;
-    let mut home = HartSchedulers::new(lines, tools, TeamMode::Wait);
+    let mut home = HartSchedulers::new(lines, hart_local, TeamMode::Wait);
     let _opened = Schedulers::<R, JobMachines<'p>>::open(&mut home, alloc, &nested)?;
     Ok(())
 }
@@ -369,13 +380,13 @@ fn enters_second<'x, 'p: 'x, R: Threads + Wait + Sync>(
     plan: &'x Plan,
     lock: &'x Mutex<Ledger>,
     cells: &'x [OnceBox<SharedSite<'p>>],
-    tools: Tools<'x>,
+    hart_local: HartLocal<'x>,
 ) -> Result<bool, Fail>
     requires plan { plan.now ≡ record { harts = 2; parents = 0 ∷ 0 ∷ [] } }
     requires cells { length cells.now ≡ 3 }
 {
     let mut port = WaitingPort::new(LockedPort::new(alloc, lock, plan, 1)?, rt);
-    let mut schedulers = HartSchedulers::new(lines(alloc, cells)?, tools, TeamMode::Wait);
+    let mut schedulers = HartSchedulers::new(lines(alloc, cells)?, hart_local, TeamMode::Wait);
     match schedulers.find(rt, 2) {
         Some(mut found) => Ok(schedulers.enter(rt, &mut port, rt, &mut found, 2).is_some()),
         None => Err(Fail::new("nothing is found")),
@@ -390,19 +401,19 @@ fn enters_by_another<'x, 'p: 'x, R: Threads + Wait + Sync>(
     plan: &'x Plan,
     lock: &'x Mutex<Ledger>,
     cells: &'x [OnceBox<SharedSite<'p>>],
-    tools: (Tools<'x>, Tools<'x>),
+    hart_local: (HartLocal<'x>, HartLocal<'x>),
 ) -> Result<bool, Fail>
     requires plan { plan.now ≡ record { harts = 2; parents = 0 ∷ 0 ∷ [] } }
     requires cells { length cells.now ≡ 3 }
 {
-    let (own, others) = tools;
+    let (own, others) = hart_local;
     let mut turned = lines(alloc, cells)?;
     turned.swap(1, 2);
     open_first(rt, alloc, program, turned, own)?;
     enters_second(rt, alloc, plan, lock, cells, others)
 }
 
-// The same with tools of a run of two harts.
+// The same with hart-local states of a run of two harts.
 fn is_entered<R: Threads + Wait + Sync>(
     rt: &R,
     alloc: Global,
@@ -414,8 +425,8 @@ fn is_entered<R: Threads + Wait + Sync>(
 {
     let cells = cells(alloc, 2)?;
     let (words, claims) = Claims::new(alloc, &check(alloc, program, 2)?, 2)?;
-    let tools = two_tools(alloc, &words, claims)?;
-    enters_by_another(rt, alloc, program, plan, lock, &cells, tools)
+    let hart_local = two_hart_locals(alloc, &words, claims)?;
+    enters_by_another(rt, alloc, program, plan, lock, &cells, hart_local)
 }
 
 #[test]

@@ -10,8 +10,8 @@ use Rattle.atomic_table.specs.Table.{State, Me, Act, keeps, takes, gives, rest, 
 use Rattle.atomic_table.proofs.Lists.{at_set, at_snoc, at_map, set_here, set_else, exchanged}
 use Rattle.task_table.specs.declared.slot.TaskSlot.{TaskSlot}
 use Rattle.task_table.specs.declared.slot.TaskSlot.TheVariants.{Waits, Ended}
-use Rattle.task_table.specs.declared.slot.Sight.{Sight}
-use Rattle.task_table.specs.Slots.{StandsAt, TasksStand, IsSight, Claims, Collects, looked}
+use Rattle.task_table.specs.declared.slot.SeatView.{SeatView}
+use Rattle.task_table.specs.Slots.{StandsAt, TasksStand, IsSeatView, Claims, Collects, looked}
 
 -- there is an element at each place
 pub there : {A : Type 0} (l : List A) (i : ℕ) → i < length l → (a : A) × (get_elem? l i ≡ some a)
@@ -41,9 +41,9 @@ still_claimed words i m at rise p old =
     (λ other z. old (sym (get_or-set_other words i p m 0 other) ∙ z))
 
 module _ {T R K : Type 0} (ends : T → R → Type 0) (list_of : K → List T) (key : K) where
-  -- a step that changes the word and the slot of one task, and the sight of one seat
-  stays : (s : State (TaskSlot T R) (Sight K)) → TasksStand ends key (list_of key) s → (id i m : ℕ) (u : Sight K)
-      → i < length (list_of key) → (get_or s.words i 0 ≢ 0 → m ≢ 0) → IsSight key (set s.words i m) u
+  -- a step that changes the word and the slot of one task, and the view of one seat
+  stays : (s : State (TaskSlot T R) (SeatView K)) → TasksStand ends key (list_of key) s → (id i m : ℕ) (u : SeatView K)
+      → i < length (list_of key) → (get_or s.words i 0 ≢ 0 → m ≢ 0) → IsSeatView key (set s.words i m) u
       → (homes : List (Option (TaskSlot T R))) → length homes ≡ length s.homes
       → ((j : ℕ) → j ≢ i → get_elem? homes j ≡ get_elem? s.homes j)
       → ((task : T) → get_elem? (list_of key) i ≡ some task → StandsAt ends task m (get_elem? homes i))
@@ -53,7 +53,7 @@ module _ {T R K : Type 0} (ends : T → R → Type 0) (list_of : K → List T) (
         length-set s.words i m ∙ h.0,
         same ∙ h.1,
         (λ j v e. ⊎_elim
-            (λ t. subst (λ (x : Sight K). IsSight key (set s.words i m) x) t.1 seen)
+            (λ t. subst (λ (x : SeatView K). IsSeatView key (set s.words i m) x) t.1 seen)
             (λ t. let k = h.2 j v t.1 in (k.0, λ z. still_claimed s.words i m room rise v.place (k.1 z)))
             (at_set s.views id j u v e)),
         (λ j task e.
@@ -70,17 +70,17 @@ module _ {T R K : Type 0} (ends : T → R → Type 0) (list_of : K → List T) (
       )
 
   -- what a seat knows after it read the word at i, which then is m
-  sees : (words : List ℕ) (v : Sight K) (i m : ℕ) → v.tasks ≡ key → i < length words → (get_or words i 0 ≢ 0 → m ≢ 0)
-      → IsSight key (set words i m) (looked v i (get_or words i 0))
+  sees : (words : List ℕ) (v : SeatView K) (i m : ℕ) → v.tasks ≡ key → i < length words → (get_or words i 0 ≢ 0 → m ≢ 0)
+      → IsSeatView key (set words i m) (looked v i (get_or words i 0))
   sees words v i m e at rise = (e, λ z y. rise z (sym (get_or-set_same words i m 0 at) ∙ y))
 
-  pub claim_moves : (slots id i : ℕ) (me : Me (TaskSlot T R) (Sight K)) → me.0.tasks ≡ key → i < length (list_of key)
+  pub claim_moves : (slots id i : ℕ) (me : Me (TaskSlot T R) (SeatView K)) → me.0.tasks ≡ key → i < length (list_of key)
       → Allows (TasksStand ends key (list_of key)) slots id me i (λ n. either (n == 0) 1 n) (Claims (list_of me.0.tasks) me i)
   claim_moves slots id i me e at s h wide seen small =
       let n : ℕ = get_or s.words i 0 in
       let room : i < length s.words = omega (arith, h.0) in
       exchanged n 0 1
-      (λ m. (w : Sight K) × (a : Act (TaskSlot T R)) × Valid s.homes me.1 a × TasksStand ends key (list_of key) (stepped s i m id me.1 w a) × Claims (list_of me.0.tasks) me i n (w, carried_after me.1 a))
+      (λ m. (w : SeatView K) × (a : Act (TaskSlot T R)) × Valid s.homes me.1 a × TasksStand ends key (list_of key) (stepped s i m id me.1 w a) × Claims (list_of me.0.tasks) me i n (w, carried_after me.1 a))
       (λ free.
       let t = there (list_of key) i at in
       let k = (h.3 i t.0 t.1).0 free in (
@@ -98,13 +98,13 @@ module _ {T R K : Type 0} (ends : T → R → Type 0) (list_of : K → List T) (
         (refl, (λ z. absurd (taken z)), (λ z. refl)),
       ))
 
-  pub collect_moves : (slots id i : ℕ) (me : Me (TaskSlot T R) (Sight K)) → me.0.tasks ≡ key → i < length (list_of key)
+  pub collect_moves : (slots id i : ℕ) (me : Me (TaskSlot T R) (SeatView K)) → me.0.tasks ≡ key → i < length (list_of key)
       → Allows (TasksStand ends key (list_of key)) slots id me i (λ n. either (n == 2) 3 n) (Collects ends (list_of me.0.tasks) me i)
   collect_moves slots id i me e at s h wide seen small =
       let n : ℕ = get_or s.words i 0 in
       let room : i < length s.words = omega (arith, h.0) in
       exchanged n 2 3
-      (λ m. (w : Sight K) × (a : Act (TaskSlot T R)) × Valid s.homes me.1 a × TasksStand ends key (list_of key) (stepped s i m id me.1 w a) × Collects ends (list_of me.0.tasks) me i n (w, carried_after me.1 a))
+      (λ m. (w : SeatView K) × (a : Act (TaskSlot T R)) × Valid s.homes me.1 a × TasksStand ends key (list_of key) (stepped s i m id me.1 w a) × Collects ends (list_of me.0.tasks) me i n (w, carried_after me.1 a))
       (λ ended.
       let t = there (list_of key) i at in
       let k = (h.3 i t.0 t.1).1 ended in (
@@ -122,11 +122,11 @@ module _ {T R K : Type 0} (ends : T → R → Type 0) (list_of : K → List T) (
         (refl, (λ z. absurd (other z)), (λ z. refl)),
       ))
 
-  pub give_moves : (slots id i : ℕ) (me : Me (TaskSlot T R) (Sight K)) (v : Sight K) (outcome : R) (held : List (ℕ × TaskSlot T R)) → me ≡ (v, (i, Ended outcome) ∷ held) → i < length (list_of key)
+  pub give_moves : (slots id i : ℕ) (me : Me (TaskSlot T R) (SeatView K)) (v : SeatView K) (outcome : R) (held : List (ℕ × TaskSlot T R)) → me ≡ (v, (i, Ended outcome) ∷ held) → i < length (list_of key)
       → ((task : T) → get_elem? (list_of key) i ≡ some task → ends task outcome)
       → Allows (TasksStand ends key (list_of key)) slots id me i (λ _. 2) (λ _ after. after ≡ (me.0, rest me.1))
   give_moves slots id i me v outcome held e at ok =
-      subst (λ (x : Me (TaskSlot T R) (Sight K)). Allows (TasksStand ends key (list_of key)) slots id x i (λ _. 2) (λ _ after. after ≡ (x.0, rest x.1))) (sym e)
+      subst (λ (x : Me (TaskSlot T R) (SeatView K)). Allows (TasksStand ends key (list_of key)) slots id x i (λ _. 2) (λ _ after. after ≡ (x.0, rest x.1))) (sym e)
       (λ s h wide seen small.
       let room : i < length s.words = omega (arith, h.0) in
       let old = h.2 id v seen in (
@@ -140,21 +140,21 @@ module _ {T R K : Type 0} (ends : T → R → Type 0) (list_of : K → List T) (
 
   pub sits : (slots : ℕ) → Enters (TasksStand ends key (list_of key)) slots 0 (λ n w. w.tasks ≡ key)
   sits slots s h wide small =
-      let w : Sight K = record { tasks = key; place = 0; found = get_or s.words 0 0 } in (
+      let w : SeatView K = record { tasks = key; place = 0; found = get_or s.words 0 0 } in (
         w,
-        (h.0, h.1, (λ j v e. ⊎_elim (λ t. h.2 j v t) (λ t. subst (λ (x : Sight K). IsSight key s.words x) t (refl, λ z. z)) (at_snoc s.views w v j e)), h.3),
+        (h.0, h.1, (λ j v e. ⊎_elim (λ t. h.2 j v t) (λ t. subst (λ (x : SeatView K). IsSeatView key s.words x) t (refl, λ z. z)) (at_snoc s.views w v j e)), h.3),
         refl,
       )
 
   pub opens : (words : List ℕ) (slots : List (TaskSlot T R)) → words ≡ replicate (length (list_of key)) 0 → slots ≡ map (λ task. Waits task) (list_of key)
       → TasksStand ends key (list_of key) (opening words slots record { tasks = key; place = 0; found = 0 })
   opens words slots ew es =
-      let first : Sight K = record { tasks = key; place = 0; found = 0 } in
+      let first : SeatView K = record { tasks = key; place = 0; found = 0 } in
       subst (λ (ws : List ℕ). TasksStand ends key (list_of key) (opening ws slots first)) (sym ew)
       (subst (λ (xs : List (TaskSlot T R)). TasksStand ends key (list_of key) (opening (replicate (length (list_of key)) 0) xs first)) (sym es) (
         length-replicate {A = ℕ} (length (list_of key)) 0,
         length-map (map (λ task. Waits task) (list_of key)) some ∙ length-map (list_of key) (λ task. Waits task),
-        (λ id v e. subst (λ (x : Sight K). IsSight key (replicate (length (list_of key)) 0) x) (sym (one_only first v id e)) (refl, λ z. absurd (z refl))),
+        (λ id v e. subst (λ (x : SeatView K). IsSeatView key (replicate (length (list_of key)) 0) x) (sym (one_only first v id e)) (refl, λ z. absurd (z refl))),
         (λ i task e. (
           (λ z. at_map some (map (λ task. Waits task) (list_of key)) i (Waits task) (at_map (λ task. Waits task) (list_of key) i task e)),
           (λ z. absurd (zeros (length (list_of key)) i z)),

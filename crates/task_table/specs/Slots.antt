@@ -8,7 +8,7 @@ use Rattle.std.specs.declared.snapshot.Snapshot.{Snapshot}
 use Rattle.std.specs.declared.vec.Vec.{Vec}
 use Rattle.task_table.specs.declared.slot.TaskSlot.{TaskSlot}
 use Rattle.task_table.specs.declared.slot.TaskSlot.TheVariants.{Waits, Ended}
-use Rattle.task_table.specs.declared.slot.Sight.{Sight}
+use Rattle.task_table.specs.declared.slot.SeatView.{SeatView}
 
 -- A task may end with this outcome: an output that it gives, an error of its own, or an allocation failure.
 abbrev pub Ends : {T O E : Type 0} → (T → O → Type 0) → (T → E → Type 0) → (E → Type 0) → T → Result O E → Type 0
@@ -28,30 +28,30 @@ list_of key = key.value.items
 
 module _ {K : Type 0} where
   -- What a seat knows after it has read n in the word of the task at i.
-  abbrev pub looked : Sight K → ℕ → ℕ → Sight K
-  looked sight i n = record sight { place = i; found = n }
+  abbrev pub looked : SeatView K → ℕ → ℕ → SeatView K
+  looked seat_view i n = record seat_view { place = i; found = n }
 
-  -- A sight belongs to these tasks, and a task that was seen to be claimed is claimed for good.
-  abbrev pub IsSight : K → List ℕ → Sight K → Type 0
-  IsSight key words sight = (sight.tasks ≡ key) × (sight.found ≢ 0 → slice_index words sight.place ≢ 0)
+  -- A view belongs to these tasks, and a task that was seen to be claimed is claimed for good.
+  abbrev pub IsSeatView : K → List ℕ → SeatView K → Type 0
+  IsSeatView key words seat_view = (seat_view.tasks ≡ key) × (seat_view.found ≢ 0 → slice_index words seat_view.place ≢ 0)
 
 module _ {T R K : Type 0} where
-  -- The invariant: the slots are those of these tasks, and each seat's sight belongs to them.
-  abbrev pub TasksStand : (T → R → Type 0) → K → List T → State (TaskSlot T R) (Sight K) → Type 0
+  -- The invariant: the slots are those of these tasks, and each seat's view belongs to them.
+  abbrev pub TasksStand : (T → R → Type 0) → K → List T → State (TaskSlot T R) (SeatView K) → Type 0
   TasksStand ends key tasks s =
       (length s.words ≡ length tasks) × (length s.homes ≡ length tasks)
-      × ((id : ℕ) (sight : Sight K) → get_elem? s.views id ≡ some sight → IsSight key s.words sight)
+      × ((id : ℕ) (seat_view : SeatView K) → get_elem? s.views id ≡ some seat_view → IsSeatView key s.words seat_view)
       × ((i : ℕ) (task : T) → get_elem? tasks i ≡ some task → StandsAt ends task (slice_index s.words i) (get_elem? s.homes i))
 
   -- A claim of the task at i: if its word was 0, the seat has the task.
-  abbrev pub Claims : List T → Me (TaskSlot T R) (Sight K) → ℕ → ℕ → Me (TaskSlot T R) (Sight K) → Type 0
+  abbrev pub Claims : List T → Me (TaskSlot T R) (SeatView K) → ℕ → ℕ → Me (TaskSlot T R) (SeatView K) → Type 0
   Claims tasks me i found after =
       (after.0 ≡ looked me.0 i found)
       × (found ≡ 0 → (task : T) × (get_elem? tasks i ≡ some task) × (after.1 ≡ (i, Waits task) ∷ me.1))
       × (found ≢ 0 → after.1 ≡ me.1)
 
   -- A try to collect the outcome of the task at i: if its word was 2, the seat has the outcome.
-  abbrev pub Collects : (T → R → Type 0) → List T → Me (TaskSlot T R) (Sight K) → ℕ → ℕ → Me (TaskSlot T R) (Sight K) → Type 0
+  abbrev pub Collects : (T → R → Type 0) → List T → Me (TaskSlot T R) (SeatView K) → ℕ → ℕ → Me (TaskSlot T R) (SeatView K) → Type 0
   Collects ends tasks me i found after =
       (after.0 ≡ looked me.0 i found)
       × (found ≡ 2 → (task : T) × (outcome : R) × (get_elem? tasks i ≡ some task) × ends task outcome

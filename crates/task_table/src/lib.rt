@@ -27,5 +27,5 @@ mod table;
 #[cfg(test)]
 mod tests;
 
-pub use slot::{Outcome, Sight, TaskList, TaskSeat, TaskSlot};
+pub use slot::{Outcome, SeatView, TaskList, TaskSeat, TaskSlot};
 pub use table::TaskTable;

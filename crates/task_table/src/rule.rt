@@ -1,5 +1,5 @@
 //! The invariant of a table of tasks, and what each kind of step ensures.
-use crate::slot::{Outcome, Sight, TaskList, TaskSlot};
+use crate::slot::{Outcome, SeatView, TaskList, TaskSlot};
 use atomic_table::{Play, TableRule};
 use std::marker::PhantomData;
 use tasks::TaskKind;
@@ -9,7 +9,7 @@ pub struct TaskRule<T> {
     marker: PhantomData<T>,
 }
 
-impl<T: TaskKind> TableRule<TaskSlot<T, Outcome<T>>, Sight<TaskList<T>>, TaskList<T>>
+impl<T: TaskKind> TableRule<TaskSlot<T, Outcome<T>>, SeatView<TaskList<T>>, TaskList<T>>
     for TaskRule<T> {
     ghost use Rattle.std.specs.Prelude.{alloc_error};
     ghost use Rattle.task_table.specs.Slots.{TasksStand, Ends};
@@ -22,7 +22,7 @@ impl<T: TaskKind> TableRule<TaskSlot<T, Outcome<T>>, Sight<TaskList<T>>, TaskLis
 /// The load by which a hart takes a seat.
 pub struct Sit;
 
-impl<T, R> Play<TaskSlot<T, R>, Sight<TaskList<T>>> for Sit {
+impl<T, R> Play<TaskSlot<T, R>, SeatView<TaskList<T>>> for Sit {
     ghost use Rattle.std.specs.Prelude.{◌≡◌};
 
     ghost then = { λ s me found after. after.0.tasks ≡ me.0.tasks };
@@ -31,7 +31,7 @@ impl<T, R> Play<TaskSlot<T, R>, Sight<TaskList<T>>> for Sit {
 /// The exchange by which a task is claimed.
 pub struct Claim;
 
-impl<T, R> Play<TaskSlot<T, R>, Sight<TaskList<T>>> for Claim {
+impl<T, R> Play<TaskSlot<T, R>, SeatView<TaskList<T>>> for Claim {
     ghost use Rattle.task_table.specs.Slots.{Claims};
 
     ghost then = { λ s me found after. Claims me.0.tasks.value.items me s.word found after };
@@ -40,7 +40,7 @@ impl<T, R> Play<TaskSlot<T, R>, Sight<TaskList<T>>> for Claim {
 /// The store by which a hart stores an outcome.
 pub struct Give;
 
-impl<T, R> Play<TaskSlot<T, R>, Sight<TaskList<T>>> for Give {
+impl<T, R> Play<TaskSlot<T, R>, SeatView<TaskList<T>>> for Give {
     ghost use Rattle.std.specs.Prelude.{◌≡◌};
     ghost use Rattle.atomic_table.specs.Table.{rest};
 
@@ -52,7 +52,7 @@ pub struct Collect<T> {
     marker: PhantomData<T>,
 }
 
-impl<T: TaskKind> Play<TaskSlot<T, Outcome<T>>, Sight<TaskList<T>>> for Collect<T> {
+impl<T: TaskKind> Play<TaskSlot<T, Outcome<T>>, SeatView<TaskList<T>>> for Collect<T> {
     ghost use Rattle.std.specs.Prelude.{alloc_error};
     ghost use Rattle.task_table.specs.Slots.{Collects, Ends};
 

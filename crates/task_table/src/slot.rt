@@ -21,7 +21,7 @@ pub type Outcome<T> = Result<<T as TaskKind>::Output, <T as TaskKind>::Error>;
 pub type TaskList<T> = Snapshot<Vec<T>>;
 
 /// What a seat knows: no value of this type is made.
-pub struct Sight<K> {
+pub struct SeatView<K> {
     /// The tasks of the table.
     pub tasks: K,
     /// The index whose word the seat read last.
@@ -31,4 +31,4 @@ pub struct Sight<K> {
 }
 
 /// One hart's seat at a table of tasks.
-pub type TaskSeat<T> = Seat<TaskSlot<T, Outcome<T>>, Sight<TaskList<T>>>;
+pub type TaskSeat<T> = Seat<TaskSlot<T, Outcome<T>>, SeatView<TaskList<T>>>;

@@ -6,7 +6,7 @@ ghost use Rattle.atomic_table.specs.Table.{rest};
 ghost use Rattle.task_table.specs.Slots.{Ends};
 
 use crate::rule::{Claim, Collect, Give, Sit, TaskRule};
-use crate::slot::{Outcome, Sight, TaskList, TaskSeat, TaskSlot};
+use crate::slot::{Outcome, SeatView, TaskList, TaskSeat, TaskSlot};
 use atomic_table::{Refused, Table};
 use std::alloc::{AllocError, Global};
 use std::snapshot::Snapshot;
@@ -17,7 +17,7 @@ use tasks::TaskKind;
 pub struct TaskTable<T: TaskKind> {
     pub(crate) table: Table<
         TaskSlot<T, Outcome<T>>,
-        Sight<TaskList<T>>,
+        SeatView<TaskList<T>>,
         TaskList<T>,
         TaskRule<T>,
         Global,

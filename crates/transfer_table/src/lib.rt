@@ -2,7 +2,7 @@
 //!
 //! A plan is a number of harts and a tree of sites. An entry registers a site, requests harts for it, lets a hart enter or
 //! leave it, unregisters it, or skips it with all sites inside it. `Board` holds the state after the entries admitted so far.
-//! `specs/Table.antt` defines what each entry needs and does. `layer_tests` has examples.
+//! `specs/Table.antt` defines what each entry needs and does. `table_tests` has examples.
 //!
 //! Each public module holds laws. No code there runs: each function's contract is a law, and its body is empty. `laws` are
 //! about any legal list, `site_accounts` about a hart that runs a part of a program alone, `guest_counts` about the harts

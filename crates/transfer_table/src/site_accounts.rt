@@ -5,7 +5,7 @@
 //! are an interval of numbers, so accounts join like lists, and the account of the whole program implies that its journal is
 //! complete.
 //!
-//! Begin with `specs/Accounts.antt`. `layer_tests` has examples of the entries, `hart_work` and `lone_hart` use the laws.
+//! Begin with `specs/Accounts.antt`. `table_tests` has examples of the entries, `hart_work` and `lone_hart` use the laws.
 
 ghost use Rattle.transfer_table.specs.AccountLaws.{OverLasts, OverJoins, SkippedAreOver, OverHaveEnded, AllAreFreshAtFirst, FreshJoins, FreshLasts, KeptJoins, EntriesTouchLittle, SpansAreSkippedByTheirTops, FreshSpansAreSkipped, AllOverIsComplete};
 

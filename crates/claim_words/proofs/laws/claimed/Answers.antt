@@ -1,5 +1,5 @@
 use Rattle.std.proofs.Common.{◌≡◌, ◌++◌, [], ◌∷◌, List, ℕ, map, slice_index, subst, sym, ap, ◌∙◌, rules, arith}
-use Rattle.claim_words.specs.declared.sight.Sight.{Sight}
+use Rattle.claim_words.specs.declared.seat_view.SeatView.{SeatView}
 use Rattle.claim_words.specs.declared.seat.ClaimSeat.{ClaimSeat}
 use Rattle.claim_words.specs.Claims.{weigh, claims, past_word, once, is_claim}
 use Rattle.claim_words.specs.Seats.{AreOf, parts_of, claims_of, reads_past, identity}
@@ -40,14 +40,14 @@ loop-other-preserved c =
     let left = c.pop-in-loop-other.new.self.items in
     let split : c.loop-other.seats.items ≡ left ++ other ∷ [] = c.in-Some-pop.ensures.items in
     let are = of-snoc c.args.table left other (subst (λ (l : List ClaimSeat). AreOf c.args.table (map identity l)) split i.5) in
-    let now = ap (λ (me : Sight × List (ℕ × ℕ)). me.0) c.join_seat.ensures.2 in
-    let parts = ap (λ (v : Sight). v.parts) now in
+    let now = ap (λ (me : SeatView × List (ℕ × ℕ)). me.0) c.join_seat.ensures.2 in
+    let parts = ap (λ (v : SeatView). v.parts) now in
     let part = i.2 in
     let count = parts-snoc left other in
     let same = ap (λ (l : List ClaimSeat). parts_of (map identity l)) split in
     let whole = i.3 in (
       c.join_seat.ensures.0 ∙ i.0,
-      ap (λ (me : Sight × List (ℕ × ℕ)). me.1) c.join_seat.ensures.2 ∙ i.1,
+      ap (λ (me : SeatView × List (ℕ × ℕ)). me.1) c.join_seat.ensures.2 ∙ i.1,
       omega (arith, parts, part),
       omega (arith, parts, count, same, whole),
       (λ r m.
@@ -59,7 +59,7 @@ loop-other-preserved c =
           omega (arith, claimed, both, left_is, split_is, before)),
       are.1,
       (λ ws.
-          let read = ap (λ (v : Sight). weigh (past_word ws) v.looks) now in
+          let read = ap (λ (v : SeatView). weigh (past_word ws) v.looks) now in
           let both = weigh-append (past_word ws) c.loop-other.first.me.0.looks other.seat.me.0.looks in
           let left_is = reads-snoc ws left other in
           let split_is = ap (reads_past ws) split in

@@ -8,7 +8,7 @@ use Rattle.array_meaning.specs.Entered.{entered_of}
 use Rattle.array_meaning.proofs.InsideLemmas.{sized_in_range}
 use Rattle.array_meaning.proofs.PlanLemmas.{sequence_length}
 use Rattle.transfer_table.specs.Plan.{Plan}
-use Rattle.meant_sites.proofs.Parts.{every_site_has_a_flag}
+use Rattle.entered_laws.proofs.Parts.{every_site_has_a_flag}
 use Rattle.entered_sites.proofs.accepted.entered_by.Goals as goal
 
 pub entered-requires-clause-sized : goal.entered-requires-clause-sized

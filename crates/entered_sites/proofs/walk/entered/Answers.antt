@@ -3,7 +3,7 @@ use Rattle.std.proofs.lemmas.Result.{IfOk-weaker}
 use Rattle.array_tree.specs.Trees.{program_of}
 use Rattle.array_meaning.specs.Stores.{arrays_of}
 use Rattle.array_meaning.specs.Work.{first_store}
-use Rattle.meant_sites.proofs.Entering.{sequence_true}
+use Rattle.entered_laws.proofs.Entering.{sequence_true}
 use Rattle.entered_sites.proofs.walk.entered.Goals as goal
 
 -- A program without a construct under an `if` enters all its sites.

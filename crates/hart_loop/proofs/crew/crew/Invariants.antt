@@ -3,11 +3,11 @@ use Rattle.deque_rows.specs.Rows as codes
 use Rattle.claim_words.specs.Seats as words
 use Rattle.hart_loop.proofs.crew.crew.Given as goal
 
--- The remaining tools are those of the remaining harts.
+-- The remaining hart-local states are those of the remaining harts.
 abbrev pub invariant-loop-port : goal.invariant-loop-port
 invariant-loop-port g l = record {
   ports : map (λ hart. hart.port) l.harts.items ≡ l.yielded;
-  rows : map (λ hart. hart.schedulers.tools.rows) l.harts.items ++ map (λ t. t.rows) (reverse l.tools.items) ≡ map codes.identity l.fn.stock.rows.items;
-  claims : map (λ hart. hart.schedulers.tools.seat) l.harts.items ++ map (λ t. t.seat) (reverse l.tools.items) ≡ map words.identity l.fn.stock.claims.items;
-  count : length l.yielded + vec_len l.tools ≡ vec_len l.fn.stock.ports;
+  rows : map (λ hart. hart.schedulers.hart_local.rows) l.harts.items ++ map (λ t. t.rows) (reverse l.hart_local.items) ≡ map codes.identity l.fn.crew_parts.rows.items;
+  claims : map (λ hart. hart.schedulers.hart_local.seat) l.harts.items ++ map (λ t. t.seat) (reverse l.hart_local.items) ≡ map words.identity l.fn.crew_parts.claims.items;
+  count : length l.yielded + vec_len l.hart_local ≡ vec_len l.fn.crew_parts.ports;
 }

@@ -20,19 +20,19 @@ returns-clause-same g c =
     let ys = c.run_crew-piece.new.harts in
     let are = ap (map port_of) c.as_mut_slice.ensures.value ∙ c.in_ok-harts.ensures.ports in
     let back = ap (map port_of) (with_items_is c.in_ok-harts.harts ys (AllZip-long _ xs ys c.run_crew-piece.ensures.same ∙ c.as_mut_slice.ensures.len)) in
-    subst (λ ports. AreSame seen ports c.in_ok-stock_of.field-0.ports.items) are
-    (subst (AreSame seen (map port_of xs)) (sym (c.in_ok-stock_of.ensures.ports ∙ back)) (ports_stay seen xs ys c.run_crew-piece.ensures.same))
+    subst (λ ports. AreSame seen ports c.in_ok-crew_parts_of.field-0.ports.items) are
+    (subst (AreSame seen (map port_of xs)) (sym (c.in_ok-crew_parts_of.ensures.ports ∙ back)) (ports_stay seen xs ys c.run_crew-piece.ensures.same))
 
-pub returns-clause-tools : goal.returns-clause-tools
-returns-clause-tools g c =
+pub returns-clause-hart_local : goal.returns-clause-hart_local
+returns-clause-hart_local g c =
     let seen = g.P.Port.seen in
     let words = c.args.words.now in
     let xs = c.as_mut_slice.result.now in
     let ys = c.run_crew-piece.new.harts in
     let back = with_items_is c.in_ok-harts.harts ys (AllZip-long _ xs ys c.run_crew-piece.ensures.same ∙ c.as_mut_slice.ensures.len) in
-    let rs = c.in_ok-stock_of.ensures.rows ∙ ap (map (λ hart. hart.schedulers.tools.rows)) back ∙ rows_stay seen xs ys c.run_crew-piece.ensures.same ∙ ap (map (λ hart. hart.schedulers.tools.rows)) c.as_mut_slice.ensures.value ∙ c.in_ok-harts.ensures.rows in
-    let ss = c.in_ok-stock_of.ensures.claims ∙ ap (map (λ hart. hart.schedulers.tools.seat)) back ∙ claims_stay seen xs ys c.run_crew-piece.ensures.same ∙ ap (map (λ hart. hart.schedulers.tools.seat)) c.as_mut_slice.ensures.value ∙ c.in_ok-harts.ensures.claims in
+    let rs = c.in_ok-crew_parts_of.ensures.rows ∙ ap (map (λ hart. hart.schedulers.hart_local.rows)) back ∙ rows_stay seen xs ys c.run_crew-piece.ensures.same ∙ ap (map (λ hart. hart.schedulers.hart_local.rows)) c.as_mut_slice.ensures.value ∙ c.in_ok-harts.ensures.rows in
+    let ss = c.in_ok-crew_parts_of.ensures.claims ∙ ap (map (λ hart. hart.schedulers.hart_local.seat)) back ∙ claims_stay seen xs ys c.run_crew-piece.ensures.same ∙ ap (map (λ hart. hart.schedulers.hart_local.seat)) c.as_mut_slice.ensures.value ∙ c.in_ok-harts.ensures.claims in
     record {
-      rows = subst rows.AreAll (sym rs) c.requires.tools.rows;
-      seats = subst (claims.AreAll words.table) (sym ss) c.requires.tools.seats;
+      rows = subst rows.AreAll (sym rs) c.requires.hart_local.rows;
+      seats = subst (claims.AreAll words.table) (sym ss) c.requires.hart_local.seats;
     }

@@ -69,7 +69,7 @@ run_piece-steps-preserved g t c =
           (c.skip_span.ensures.skipped (inv.back.alone ∙ alone)) next.0 next.1));
       job = told.2 ∙ inv.job;
       ready = told.1;
-      tools = inv.tools;
+      hart_local = inv.hart_local;
     }
 
 pub run_piece-steps-preserved-else-is_err : goal.run_piece-steps-preserved-else-is_err
@@ -95,7 +95,7 @@ run_piece-steps-preserved-else-is_err g t c =
       left = (let a = run.left in let b = inv.left in omega arith);
       job = first_of (search rules, grind (arith, common_steps));
       ready = first_of (search rules, grind (arith, common_steps));
-      tools = first_of (search rules, grind (arith, common_steps));
+      hart_local = first_of (search rules, grind (arith, common_steps));
     }
 
 pub serve-tasks-preserved-in-Piece : goal.serve-tasks-preserved-in-Piece
@@ -113,7 +113,7 @@ serve-tasks-preserved-in-Piece g t c =
       construct = run.construct ∙ c.in-Piece.ensures.construct ∙ inv.construct;
       settled = run.settled;
       left = (let a = run.left in let b = inv.left in let n = c.in-Piece.ensures.left in omega arith);
-      tools = run.tools ∙ c.in-Piece.ensures.tools ∙ inv.tools;
+      hart_local = run.hart_local ∙ c.in-Piece.ensures.hart_local ∙ inv.hart_local;
     }
 
 pub serve-tasks-preserved : goal.serve-tasks-preserved
@@ -128,7 +128,7 @@ serve-tasks-preserved g t c =
       construct = run.construct ∙ c.in-Visit.ensures.construct ∙ inv.construct;
       settled = run.stays.0 c.in-Visit.ensures.account;
       left = (let a = run.left in let b = inv.left in let n = c.in-Visit.ensures.left in omega arith);
-      tools = run.tools ∙ c.in-Visit.ensures.tools ∙ inv.tools;
+      hart_local = run.hart_local ∙ c.in-Visit.ensures.hart_local ∙ inv.hart_local;
     }
 
 pub visit-returns-in-Some-enter-clause-back : goal.visit-returns-in-Some-enter-clause-back
@@ -153,14 +153,14 @@ be_guest-returns-clause-back g t c =
     ] in
     back_then a begun (g.P.Port.seen c.serve.new.port) first c.serve.ensures.back
 
-pub be_guest-returns-clause-tools : goal.be_guest-returns-clause-tools
-be_guest-returns-clause-tools g t c =
-    let first : g.H.Schedulers.tools c.match-task.schedulers ≡ g.H.Schedulers.tools c.args.schedulers.now = elim c.match-task.branch [
-      | be_guest-in-Piece w ↦ ap g.H.Schedulers.tools w.schedulers-is ∙ w.run_job.ensures.tools
-      | be_guest-in-Visit w ↦ ap g.H.Schedulers.tools w.schedulers-is ∙ w.visit.ensures.tools
-      | be_guest-in-Nothing w ↦ ap g.H.Schedulers.tools w.schedulers-is
+pub be_guest-returns-clause-hart_local : goal.be_guest-returns-clause-hart_local
+be_guest-returns-clause-hart_local g t c =
+    let first : g.H.Schedulers.hart_local c.match-task.schedulers ≡ g.H.Schedulers.hart_local c.args.schedulers.now = elim c.match-task.branch [
+      | be_guest-in-Piece w ↦ ap g.H.Schedulers.hart_local w.schedulers-is ∙ w.run_job.ensures.hart_local
+      | be_guest-in-Visit w ↦ ap g.H.Schedulers.hart_local w.schedulers-is ∙ w.visit.ensures.hart_local
+      | be_guest-in-Nothing w ↦ ap g.H.Schedulers.hart_local w.schedulers-is
     ] in
-    c.serve.ensures.tools ∙ first
+    c.serve.ensures.hart_local ∙ first
 
 pub run_construct-serve-requires : goal.run_construct-serve-requires
 run_construct-serve-requires g t c =

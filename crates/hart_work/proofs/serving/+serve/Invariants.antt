@@ -33,7 +33,7 @@ invariant-serve-tasks g l = record {
   left : g.H.Schedulers.left l.site ≤ g.H.Schedulers.left l.fn.site;
   served : WhereAlone (g.P.Port.seen l.fn.port) (λ p around es. (start : List Entry) → g.H.Schedulers.serving l.fn.site p around start es
       → g.H.Schedulers.serving l.site p around start (g.P.Port.seen l.port).mine);
-  tools : g.H.Schedulers.tools l.schedulers ≡ g.H.Schedulers.tools l.fn.schedulers;
+  hart_local : g.H.Schedulers.hart_local l.schedulers ≡ g.H.Schedulers.hart_local l.fn.schedulers;
 }
 
 abbrev pub decreases-serve-tasks : goal.decreases-serve-tasks
@@ -49,7 +49,7 @@ invariant-run_piece-steps g l = record {
   account : WhereAlone (g.P.Port.seen l.fn.port) (λ p around es. g.M.Machines.going l.running p around es (g.P.Port.seen l.port).mine);
   job : g.M.Machines.job_of l.running ≡ l.fn.job;
   ready : g.M.Machines.ready l.running;
-  tools : g.H.Schedulers.tools l.schedulers ≡ g.H.Schedulers.tools l.fn.schedulers;
+  hart_local : g.H.Schedulers.hart_local l.schedulers ≡ g.H.Schedulers.hart_local l.fn.schedulers;
 }
 
 abbrev pub decreases-run_piece-steps : goal.decreases-run_piece-steps

@@ -1,11 +1,11 @@
-//! The tools of a hart for all sites: its deques, its seat, and the counters of each site.
+//! The hart-local state for all sites: its deques, its seat, and the counters of each site.
 ghost use Rattle.std.specs.Prelude.{◌≡◌, ◌≢◌, ◌<◌, ◌≤◌, ◌+◌, ◌↔◌, ◌⊎◌, false, None, IsTrue, IfOk, IfSome, length, map, reverse, vec_len};
 ghost use Rattle.std.specs.Option.{ForSome};
 ghost use Rattle.deque_rows.specs.Rows.{IsLevel, home_log, row_room, identity as rows_identity};
 ghost use Rattle.claim_words.specs.Seats.{IsOf, identity as seat_identity};
 ghost use Rattle.shared_sites.specs.Places.{Fits, PoolFits, TeamFits, site_at};
 ghost use Rattle.shared_sites.specs.Hands.{HasTried, IsCompleted};
-ghost use Rattle.shared_sites.specs.Stocks.{AreTools};
+ghost use Rattle.shared_sites.specs.HartLocals.{AreHartLocals};
 ghost use Rattle.shared_sites.specs.Told.{inside};
 ghost use Rattle.hart_port.specs.Count.{Rose};
 ghost use Rattle.hart_port.specs.PortView.{IsPortView, is_in, Registers, MayRequest, requested_by, yielded, MayUnregister, unregistered};
@@ -33,24 +33,24 @@ use std::marker::Model;
 use std::sync::Wait;
 use step_eval::{Kind, Nested};
 
-/// The tools of a hart for all sites: its access to the deques, its seat of the claim table, and the counters of each site.
+/// The hart-local state for all sites: its access to the deques, its seat of the claim table, and the counters of each site.
 ///
-/// Contracts see the tools' identities, which no call changes.
+/// Contracts see its identities, which no call changes.
 #[derive(Drop)]
-pub struct Tools<'t> {
+pub struct HartLocal<'t> {
     rows: HartRows,
     seat: ClaimSeat,
     claims: &'t Claims,
     harts: u8,
 }
 
-impl<'t> Model for Tools<'t> {
+impl<'t> Model for HartLocal<'t> {
     ghost use Rattle.std.specs.Prelude.{◌≡◌};
     ghost use Rattle.claim_words.specs.Seats.{IsOf, identity as seat_identity};
     ghost use Rattle.deque_rows.specs.Rows.{identity as rows_identity};
-    ghost use Rattle.shared_sites.specs.Identities.{ToolIdentities, kins_of};
+    ghost use Rattle.shared_sites.specs.Identities.{HartLocalIdentities, kins_of};
 
-    ghost Value = { ToolIdentities };
+    ghost Value = { HartLocalIdentities };
 
     ghost view = { λ t. kins_of t.rows t.seat };
 
@@ -58,15 +58,15 @@ impl<'t> Model for Tools<'t> {
         × ((rows_identity t.rows).harts ≡ t.harts) };
 }
 
-impl<'t> Tools<'t> {
-    /// The tools that a hart is lent for a run of so many harts.
-    fn new(rows: HartRows, seat: ClaimSeat, claims: &'t Claims, harts: u8) -> Tools<'t>
+impl<'t> HartLocal<'t> {
+    /// The hart-local state that a hart is lent for a run of so many harts.
+    fn new(rows: HartRows, seat: ClaimSeat, claims: &'t Claims, harts: u8) -> HartLocal<'t>
         requires harts { (rows_identity rows).harts ≡ harts }
         requires of { IsOf claims.now.table (seat_identity seat) }
         ensures rows { result.rows ≡ rows_identity rows }
         ensures seat { result.seat ≡ seat_identity seat }
     {
-        Tools {
+        HartLocal {
             rows,
             seat,
             claims,
@@ -79,7 +79,7 @@ impl<'t> Tools<'t> {
         ensures rows { rows_identity result.0 ≡ self.entry.rows }
         ensures seat { seat_identity result.1 ≡ self.entry.seat }
     {
-        let Tools {
+        let HartLocal {
             rows,
             seat,
             claims: _,
@@ -88,7 +88,7 @@ impl<'t> Tools<'t> {
         (rows, seat)
     }
 
-    /// The hart whose tools these are.
+    /// The hart of this state.
     pub fn hart(&self) -> u8 {
         self.rows.hart()
     }
@@ -181,7 +181,7 @@ impl<'t> Tools<'t> {
         requires child { (P.seen port.old).owner ≡ parent_of (P.seen port.old).plan child }
         ensures does { Registers (P.seen port.old) child result (P.seen port.new) }
         ensures kept { IsPortView (P.seen port.new) }
-        ensures tools { self.new ≡ self.old }
+        ensures hart_local { self.new ≡ self.old }
     {
         let mut hand = Hand::new(&mut self.rows, &mut self.seat, scheduler_ref);
         sched_register(port, hold, &mut hand, rt, child)?;
@@ -203,7 +203,7 @@ impl<'t> Tools<'t> {
         requires may { MayRequest (P.seen port.old) child count }
         ensures does { P.seen port.new ≡ requested_by (P.seen port.old) child count }
         ensures kept { IsPortView (P.seen port.new) }
-        ensures tools { self.new ≡ self.old }
+        ensures hart_local { self.new ≡ self.old }
     {
         let mut hand = Hand::new(&mut self.rows, &mut self.seat, scheduler_ref);
         sched_request(port, hold, &mut hand, rt, child, count);
@@ -221,7 +221,7 @@ impl<'t> Tools<'t> {
         requires may { MayUnregister (P.seen port.old) }
         ensures does { P.seen port.new ≡ unregistered (P.seen port.old) }
         ensures kept { IsPortView (P.seen port.new) }
-        ensures tools { self.new ≡ self.old }
+        ensures hart_local { self.new ≡ self.old }
     {
         let mut hand = Hand::new(&mut self.rows, &mut self.seat, scheduler_ref);
         sched_unregister(port, hold, &mut hand, rt);
@@ -240,7 +240,7 @@ impl<'t> Tools<'t> {
         requires guest { is_in (P.seen port.old).homes (P.seen port.old).owner ≡ false }
         ensures does { P.seen port.new ≡ yielded (P.seen port.old) }
         ensures kept { IsPortView (P.seen port.new) }
-        ensures tools { self.new ≡ self.old }
+        ensures hart_local { self.new ≡ self.old }
     {
         let mut hand = Hand::new(&mut self.rows, &mut self.seat, scheduler_ref);
         sched_yield(port, hold, &mut hand, rt);
@@ -264,7 +264,7 @@ impl<'t> Tools<'t> {
         ensures refused { result ≡ None → Rose (P.refused port.old) (P.refused port.new)
             ⊎ (site_at scheduler_ref.entry ≢ child) }
         ensures kept { IsPortView (P.seen port.new) }
-        ensures tools { self.new ≡ self.old }
+        ensures hart_local { self.new ≡ self.old }
     {
         // Why: reading the owner makes the port's invariant known.
         let _ = port.owner();
@@ -301,7 +301,7 @@ impl<'t> Tools<'t> {
             (P.seen port.new) }
         ensures count { RoseUnlessLent result (P.refused port.old) (P.refused port.new) }
         ensures kept { IsPortView (P.seen port.new) }
-        ensures tools { self.new ≡ self.old }
+        ensures hart_local { self.new ≡ self.old }
     {
         let mut hand = Hand::new(&mut self.rows, &mut self.seat, scheduler_ref);
         sched_enter(port, hold, &mut hand, rt)
@@ -449,7 +449,7 @@ impl<'t> Tools<'t> {
     ) -> Option<Completed<'p>>
         requires { Fits self.old scheduler_ref }
         ensures completed { IfSome result IsCompleted }
-        ensures tools { self.new ≡ self.old }
+        ensures hart_local { self.new ≡ self.old }
     {
         match scheduler_ref {
             SchedulerRef::Pool(place) => {
@@ -475,7 +475,7 @@ fn is_level(level: u8) -> bool
     1 <= level && level <= 3
 }
 
-/// The tools of all harts of a run, by their deques and their seats of the claim table. They are in reverse order: popping
+/// The hart-local states of a run, by their deques and their seats of the claim table. They are in reverse order: popping
 /// returns those of the first hart first.
 ///
 /// # Errors
@@ -485,28 +485,28 @@ fn is_level(level: u8) -> bool
 /// # Memory
 ///
 /// It allocates the list.
-pub fn tools_of<'x>(
+pub fn hart_locals_of<'x>(
     alloc: Global,
     words: &'x Claims,
     mut rows: Vec<HartRows>,
     mut claims: Vec<ClaimSeat>,
-) -> Result<Vec<Tools<'x>>, AllocError>
+) -> Result<Vec<HartLocal<'x>>, AllocError>
     requires count { vec_len claims ≡ vec_len rows }
-    requires tools { AreTools words.now.table rows.items claims.items }
+    requires hart_local { AreHartLocals words.now.table rows.items claims.items }
     ensures rows { IfOk result
-        (λ tools. map (λ t. t.rows) (reverse tools.items) ≡ map rows_identity rows.items) }
+        (λ hart_local. map (λ t. t.rows) (reverse hart_local.items) ≡ map rows_identity rows.items) }
     ensures seats { IfOk result
-        (λ tools. map (λ t. t.seat) (reverse tools.items) ≡ map seat_identity claims.items) }
+        (λ hart_local. map (λ t. t.seat) (reverse hart_local.items) ≡ map seat_identity claims.items) }
 {
     let harts = rows.len() as u8;
-    let mut tools = Vec::with_capacity(alloc, rows.len())?;
+    let mut hart_local = Vec::with_capacity(alloc, rows.len())?;
     while let Some(own) = rows.pop() {
         let Some(seat) = claims.pop() else {
             unreachable!()
         };
-        tools.push(Tools::new(own, seat, words, harts))?;
+        hart_local.push(HartLocal::new(own, seat, words, harts))?;
     }
-    Ok(tools)
+    Ok(hart_local)
 }
 
 /// Pushes the job indices of the pool onto the deque of this hart, if it is the home and the deque has room for all of them.

@@ -12,7 +12,7 @@ use Rattle.array_meaning.specs.Choices.{has_no_site_under_if, statement_has_no_s
 use Rattle.array_meaning.specs.Entered.{Entering, turns_entered, statement_entered, sequence_entered, branches_entered, phases_entered, sequence_part}
 use Rattle.array_meaning.proofs.EnteredLemmas as entered
 use Rattle.array_meaning.proofs.PlanLemmas as plans
-use Rattle.meant_sites.specs.Meant.{AllSitesAreEntered}
+use Rattle.entered_laws.specs.Meant.{AllSitesAreEntered}
 
 -- A part inside an `if` that passes the test has no sites.
 mutual

@@ -17,7 +17,7 @@ pub struct Look {
 }
 
 /// What a seat knows.
-pub struct Sight {
+pub struct SeatView {
     /// Its parts of the right to know the whole. All seats together have 256, so 255 seats fit.
     pub parts: u64,
     /// The number of members of each counter.

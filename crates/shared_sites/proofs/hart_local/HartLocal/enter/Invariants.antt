@@ -1,5 +1,5 @@
 use Rattle.std.proofs.Common.{◌≡◌, ◌≤◌}
-use Rattle.shared_sites.proofs.tools.Tools.enter.Given as goal
+use Rattle.shared_sites.proofs.hart_local.HartLocal.enter.Given as goal
 
 -- A try that didn't bring the hart inside left it where it was.
 abbrev pub invariant-tries : goal.invariant-tries
@@ -8,5 +8,5 @@ invariant-tries g l = record {
   finite : (goal.iterator-tries g).is_finite l.iterator';
   same : g.P.Port.seen l.port ≡ g.P.Port.seen l.fn.port;
   count : g.P.Port.refused l.fn.port ≤ g.P.Port.refused l.port;
-  tools : l.self ≡ l.fn.self;
+  hart_local : l.self ≡ l.fn.self;
 }

@@ -9,7 +9,7 @@ use Rattle.array_meaning.specs.Entered.{entered_of}
 use Rattle.array_meaning.proofs.EnteredLemmas as entered
 use Rattle.array_meaning.proofs.PlanLemmas as plans
 use Rattle.array_meaning.proofs.NestingLemmas.{stay_inside_parts}
-use Rattle.meant_sites.specs.Meant.{HasPartFrom, PartsAreSpans, ProgramsAreParts, EnteredIsComplete, EverySiteHasAFlag}
+use Rattle.entered_laws.specs.Meant.{HasPartFrom, PartsAreSpans, ProgramsAreParts, EnteredIsComplete, EverySiteHasAFlag}
 
 -- an index behind a list
 at_right : (xs ys : List ℕ) (i : ℕ) → slice_index (xs ++ ys) (length xs + i) ≡ slice_index ys i

@@ -5,7 +5,7 @@
 //! with `specs/Meant.antt`; `transfer_table` has accounts, and the tests of `check_tests` show which sites programs enter.
 #![tactic(auto)]
 
-ghost use Rattle.meant_sites.specs.Meant.{PartsAreSpans, ProgramsAreParts, EnteredIsComplete, EverySiteHasAFlag, AllSitesAreEntered};
+ghost use Rattle.entered_laws.specs.Meant.{PartsAreSpans, ProgramsAreParts, EnteredIsComplete, EverySiteHasAFlag, AllSitesAreEntered};
 
 /// The sites of a part are whole subtrees inside the site around it.
 pub fn parts_are_spans()

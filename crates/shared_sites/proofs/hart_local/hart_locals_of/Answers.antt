@@ -4,19 +4,19 @@ use Rattle.deque_rows.specs.Rows as codes
 use Rattle.deque_rows.proofs.Callers.{reaches_all, last_reaches, rest_reach}
 use Rattle.claim_words.specs.Seats as words
 use Rattle.claim_words.specs.declared.seat.ClaimSeat.{ClaimSeat}
-use Rattle.shared_sites.specs.declared.tools.Tools.{Tools}
-use Rattle.shared_sites.proofs.Stocks.{given, split_of}
-use Rattle.shared_sites.proofs.tools.tools_of.Goals as goal
+use Rattle.shared_sites.specs.declared.hart_local.HartLocal.{HartLocal}
+use Rattle.shared_sites.proofs.HartLocals.{given, split_of}
+use Rattle.shared_sites.proofs.hart_local.hart_locals_of.Goals as goal
 
 pub loop-own-init : goal.loop-own-init
 loop-own-init c =
-    let none = c.in_ok-tools.ensures.items in
+    let none = c.in_ok-hart_local.ensures.items in
     record {
-      rows = ap (λ ts. map codes.identity c.args.rows.items ++ map (λ (t : Tools). t.rows) (reverse ts)) none ∙ append-nil (map codes.identity c.args.rows.items);
-      seats = ap (λ ts. map words.identity c.args.claims.items ++ map (λ (t : Tools). t.seat) (reverse ts)) none ∙ append-nil (map words.identity c.args.claims.items);
+      rows = ap (λ ts. map codes.identity c.args.rows.items ++ map (λ (t : HartLocal). t.rows) (reverse ts)) none ∙ append-nil (map codes.identity c.args.rows.items);
+      seats = ap (λ ts. map words.identity c.args.claims.items ++ map (λ (t : HartLocal). t.seat) (reverse ts)) none ∙ append-nil (map words.identity c.args.claims.items);
       count = c.requires.count;
-      reaches = λ h d below. reaches_all c.args.rows.items c.requires.tools.rows h d below ∙ sym c.args.rows.ok.0 ∙ sym c.len-harts.ensures;
-      of = c.requires.tools.seats.of;
+      reaches = λ h d below. reaches_all c.args.rows.items c.requires.hart_local.rows h d below ∙ sym c.args.rows.ok.0 ∙ sym c.len-harts.ensures;
+      of = c.requires.hart_local.seats.of;
     }
 
 pub new-requires-clause-harts : goal.new-requires-clause-harts
@@ -31,9 +31,9 @@ pub loop-own-preserved : goal.loop-own-preserved
 loop-own-preserved c =
     let table = c.args.words.now.table in
     record {
-      rows = given codes.identity (λ (t : Tools). t.rows) c.loop-own.rows.items c.pop.new.self.items c.in-Some.own c.loop-own.tools.items c.push.new.self.items c.new.result (map codes.identity c.args.rows.items)
+      rows = given codes.identity (λ (t : HartLocal). t.rows) c.loop-own.rows.items c.pop.new.self.items c.in-Some.own c.loop-own.hart_local.items c.push.new.self.items c.new.result (map codes.identity c.args.rows.items)
           c.in-Some.ensures.items c.in_ok-push.ensures.items c.new.ensures.rows c.loop-own.invariant.rows;
-      seats = given words.identity (λ (t : Tools). t.seat) c.loop-own.claims.items c.pop-in-Some.new.self.items c.in-Some-pop.seat c.loop-own.tools.items c.push.new.self.items c.new.result (map words.identity c.args.claims.items)
+      seats = given words.identity (λ (t : HartLocal). t.seat) c.loop-own.claims.items c.pop-in-Some.new.self.items c.in-Some-pop.seat c.loop-own.hart_local.items c.push.new.self.items c.new.result (map words.identity c.args.claims.items)
           c.in-Some-pop.ensures.items c.in_ok-push.ensures.items c.new.ensures.seat c.loop-own.invariant.seats;
       count = omega (arith, c.in-Some.ensures.len, c.in-Some-pop.ensures.len, c.loop-own.invariant.count);
       reaches = rest_reach c.loop-own.rows.items c.pop.new.self.items c.in-Some.own c.len-harts.result c.in-Some.ensures.items c.loop-own.invariant.reaches;

@@ -1,4 +1,4 @@
--- How tools are taken and returned.
+-- How hart-local states are taken and returned.
 use Rattle.std.proofs.Common.{◌≡◌, ◌∙◌, List, [], ◌∷◌, ◌++◌, map, reverse, ap, sym}
 use Rattle.std.proofs.lemmas.List.{reverse-append, append_assoc, map-append}
 use Rattle.claim_words.specs.declared.seat.ClaimSeat.{ClaimSeat}

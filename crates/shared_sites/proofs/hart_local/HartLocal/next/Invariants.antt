@@ -1,9 +1,9 @@
 use Rattle.std.proofs.Common.{◌≡◌}
-use Rattle.shared_sites.proofs.tools.Tools.next.Given as goal
+use Rattle.shared_sites.proofs.hart_local.HartLocal.next.Given as goal
 
 abbrev pub invariant-looks : goal.invariant-looks
 invariant-looks g l = record {
   next : (goal.iterator-looks g).can_next l.iterator';
   finite : (goal.iterator-looks g).is_finite l.iterator';
-  tools : l.self ≡ l.fn.self;
+  hart_local : l.self ≡ l.fn.self;
 }

@@ -1,5 +1,0 @@
-use Rattle.meant_sites.proofs.Entering.{all_sites_are_entered}
-use Rattle.meant_sites.proofs.all_sites_are_entered.Goals as goal
-
-pub returns : goal.returns
-returns c = all_sites_are_entered
