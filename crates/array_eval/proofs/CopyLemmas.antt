@@ -191,7 +191,7 @@ free_slot pages slots number right none = slot_free pages (get_or slots number 0
 
 -- ---- the view over a store
 
--- the value in the view at a cell
+-- The value in the view at a cell.
 pub seen_at : {A : Type 0} (own : Trace → ℕ → A) (below : ℕ → A) (copies : List (Option Trace)) (count i : ℕ) (d : A) → i < count →
     get_or (seen own below copies count) i d ≡ seen_in (λ page. own page (i % 64)) (below i) (get_or copies (i / 64) None)
 seen_at own below copies count i d h =
@@ -202,7 +202,7 @@ pub length_seen_over : {A : Type 0} (own : Trace → ℕ → A) (below : ℕ →
 length_seen_over own below copies count =
     length-map-range_with_len (λ cell. seen_in (λ page. own page (cell % 64)) (below cell) (get_or copies (cell / 64) None)) 0 count
 
--- a view is determined cell by cell
+-- A view is determined cell by cell.
 pub seen_is : {A : Type 0} (own : Trace → ℕ → A) (below : ℕ → A) (copies : List (Option Trace)) (count : ℕ) (d : A) (all : List A) → length all ≡ count →
     ((i : ℕ) → i < count → seen_in (λ page. own page (i % 64)) (below i) (get_or copies (i / 64) None) ≡ get_or all i d) → seen own below copies count ≡ all
 seen_is own below copies count d all long each =

@@ -63,11 +63,11 @@ single [] d e = absurd (omega (arith, e))
 single (s ∷ []) d e = refl
 single (s ∷ t ∷ more) d e = absurd (omega (arith, e))
 
--- a block of one statement
+-- A block of one statement.
 pub one_statement : (b : Block) (d : Stmt) → length b.statements.items ≡ 1 → sequence_of b ≡ followed (statement_of (get_or b.statements.items 0 d)) ended
 one_statement b d e = sequence_of-statements b ∙ single b.statements.items d e
 
--- the statement that an assignment of the tree stands for
+-- The statement that an assignment of the tree stands for.
 pub assignment : (line : ℕ) (array : List ℕ) (index value : Expr) →
     statement_of (stmt.Assign line array index value) ≡ Assign line array (expression_of index) (expression_of value)
 assignment line array index value =

@@ -13,7 +13,7 @@ use Rattle.array_eval.specs.Pages.{IsPageOf, page_at, pages_for}
 use Rattle.array_eval.specs.Traces.{Trace, fresh, noted, marks_in}
 use Rattle.array_eval.proofs.CopyLemmas.{get_alike, length_seen_over, seen_added, seen_at, seen_bare, seen_below, seen_copy, seen_is, seen_written}
 
--- the values of a copy, and its marks
+-- The values of a copy, and its marks.
 abbrev pub value_in : Trace → ℕ → ℤ
 value_in page = at_cell page.cells
 

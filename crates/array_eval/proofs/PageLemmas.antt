@@ -10,7 +10,7 @@ use Rattle.std.proofs.lemmas.Grind.{div_ceil_times}
 use Rattle.array_eval.specs.Equal.{store_eq}
 use Rattle.array_eval.specs.Pages.{padded, cells_on, pages_for, ArePages, page_at, AreChanged}
 
--- each page has 64 cells
+-- Each page has 64 cells.
 abbrev pub AreWhole : List (List ℤ) → Type 0
 AreWhole pages = All (λ page. length page ≡ 64) pages
 
@@ -139,7 +139,7 @@ one_more pages i d h =
 
 -- ---- comparing pages
 
--- the cells of the view, and zeros after them
+-- The cells of the view, and zeros after them.
 all_cells : (count : ℕ) (pages : List (List ℤ)) → ArePages count pages →
     cells_on pages ≡ take count (cells_on pages) ++ replicate (64 * pages_for count - count) (pos 0)
 all_cells count pages right =
@@ -172,7 +172,7 @@ pages_decide count ps qs right right' e =
 
 -- ---- laying cells on pages
 
--- the cells that are laid out, and zeros after them
+-- The cells that are laid out, and zeros after them.
 abbrev pub filled : List ℤ → List ℤ
 filled cells = cells ++ replicate (64 * pages_for (length cells) - length cells) (pos 0)
 

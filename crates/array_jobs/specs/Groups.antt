@@ -4,14 +4,14 @@ use Rattle.array_meaning.specs.Bounds.{most_members}
 use Rattle.array_meaning.specs.Pieces.{IsMember}
 use Rattle.array_jobs.specs.Jobs.{JobTree}
 
--- Two jobs are over the same arrays, of one site and of one phase.
+-- Two jobs have the same arrays, the same site and the same phase.
 pub record AreAlike (a b : JobTree) : Type 0 where
   pub arrays : a.arrays ≡ b.arrays
   pub site : a.site ≡ b.site
   pub phase : a.phase ≡ b.phase
 
--- A group of jobs: at least 1, over the same arrays, of one site and of one phase. The job at index i has `place` i. Why any
--- two are compared, and not each with the first: a type can then keep it as a plain fact.
+-- A group of jobs: at least one, all with the same arrays, site and phase. The job at index i has `place` i. Why `alike`
+-- compares any two jobs, and not each with the first: a type can then keep the clause as a plain fact.
 pub record IsGroup (jobs : List JobTree) : Type 0 where
   pub some : 0 < length jobs
   pub few : length jobs ≤ most_members

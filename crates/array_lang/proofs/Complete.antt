@@ -12,7 +12,7 @@ use Rattle.array_lang.specs.Parsing.Machine.{Left, Level, fresh, joined, term_va
 use Rattle.array_lang.specs.declared.operator.Strength.{Strength}
 use Rattle.array_lang.specs.declared.operator.Strength.TheVariants.{Comparison as comparison, Addition as addition, Product as product}
 
--- the same, except 4 for an index
+-- The same, except 4 for an index.
 abbrev pub hold_of : Lexeme → ℕ
 hold_of (sign signs.OpenIndex) = 4
 hold_of t = pull_of t
@@ -116,7 +116,7 @@ mutual
       expr_runs d (omega (arith, h)) n (index b l ∷ outers) top
   factor_runs (grouped d) h n l outers top = expr_runs d (omega (arith, h)) n (group l ∷ outers) top
 
--- bounds and ranges
+-- Bounds and ranges.
 bound_runs : {s t : List Spot} {v : ℤ} → SpellsBound s t v → (n : Nest) (slot : Slot) → run (header (bound slot)) n s ≡ run (header (bounded slot v)) n t
 bound_runs plain_bound n slot = refl
 bound_runs negative_bound n slot = refl
@@ -124,7 +124,7 @@ bound_runs negative_bound n slot = refl
 range_runs : {s t : List Spot} {b : List ℕ} {low high : ℤ} → SpellsRange s t b low high → (n : Nest) (r : Ranged) (k : ℕ) → run (header (range_name r k)) n s ≡ run (header (range_over r k b low high)) n t
 range_runs (range {b} {low} d e) n r k = bound_runs d n (low_of r k b) ∙ bound_runs e n (high_of r k b low)
 
--- the blocks as a list
+-- The blocks as a list.
 abbrev pub sides : Sequences → List Sequence
 sides no_more = []
 sides (beside p ps) = p ∷ sides ps
@@ -133,7 +133,7 @@ sequences-sides : (ps : Sequences) → sequences (sides ps) ≡ ps
 sequences-sides no_more = refl
 sequences-sides (beside p ps) = ap (beside p) (sequences-sides ps)
 
--- the statements as a list
+-- The statements as a list.
 abbrev pub listed : Sequence → List Statement
 listed ended = []
 listed (followed c p) = c ∷ listed p
@@ -181,7 +181,7 @@ pub settle_declaring : (n : Nest) (ts : List Spot) → head_of ts ≢ Some (word
 settle_declaring n [] h = end_declaring n.arrays n.done n.frames
 settle_declaring n (t ∷ ts) h = ap (λ o. continued o (λ s. run s.mode s.nest ts) (t ∷ ts)) (step_declaring n t.line t.lexeme h)
 
--- the words that continue the statement before them
+-- The words that continue the statement before them.
 abbrev is_joint : Option Lexeme → Bool
 is_joint (Some (word words.Else)) = true
 is_joint (Some (word words.Barrier)) = true

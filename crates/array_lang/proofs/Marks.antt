@@ -14,7 +14,7 @@ use Rattle.array_lang.specs.Parsing.Scan.{reach_after, depth_after}
 use Rattle.array_lang.specs.declared.operator.Strength.{Strength}
 use Rattle.array_lang.specs.declared.nesting.Reach.TheVariants.{Inside}
 
--- none of these is true
+-- None of these is true.
 abbrev pub no_true : List Bool → Bool
 no_true [] = true
 no_true (b ∷ bs) = not b && no_true bs
@@ -67,7 +67,7 @@ declarations_clear (next_declaration d e) = declarations_clear e
 abbrev pub IsInner : Lexeme → Type 0
 IsInner l = (m depth : ℕ) → (reach_after (Inside m) l ≡ Inside (marks_after m l)) × (depth_after depth l ≡ depth)
 
--- only such tokens stand from s up to t
+-- Only such tokens stand from s up to t.
 pub data AreInner : List Spot → List Spot → Type 0 where
   no_token : {s : List Spot} → AreInner s s
   one_token : {s t : List Spot} {l : Lexeme} {a n : ℕ} → IsInner l → AreInner s t → AreInner (spot l a n ∷ s) t
@@ -121,7 +121,7 @@ between-append front t =
 pub inner_between : {s t : List Spot} (d : AreInner s t) → inner_tokens d ≡ between s t
 inner_between {t} d = sym (between-append (inner_tokens d) t) ∙ ap (λ r. between r t) (sym (inner_all d))
 
--- the number of marks after these tokens, if m stand before
+-- The number of marks after these tokens, if m stand before.
 abbrev pub marks_behind : ℕ → List Spot → ℕ
 marks_behind m [] = m
 marks_behind m (t ∷ ts) = marks_behind (marks_after m t.lexeme) ts
@@ -137,14 +137,14 @@ few_behind m (t ∷ ts) k h =
     let q = clear_first (is_mark t.lexeme && nat_le 64 m) (no_true (marks_beyond (marks_after m t.lexeme) ts)) h in
     few_behind (marks_after m t.lexeme) ts (few_after (is_mark t.lexeme) m k q.0) q.1
 
--- the number of marks in an outermost expression
+-- The number of marks in an outermost expression.
 abbrev pub whole_marks : {s t : List Spot} {x : Expression} → SpellsExpression s t x → ℕ
 whole_marks {s} {t} d = marks_behind 0 (between s t)
 
 pub whole_few : {s t : List Spot} {x : Expression} (d : SpellsExpression s t x) → no_true (expression_beyond d) ≡ true → whole_marks d ≤ 64
 whole_few {s} {t} d h = few_behind 0 (between s t) (omega arith) h
 
--- the marks among these tokens
+-- The marks among these tokens.
 abbrev pub mark_count : List Spot → ℕ
 mark_count [] = 0
 mark_count (t ∷ ts) = marks_after (mark_count ts) t.lexeme

@@ -26,7 +26,7 @@ none_spelled tokens [] p s d = s.ends p (subst (λ ts. SpellsProgram ts p) (s.al
 none_spelled tokens (t ∷ rest) p s d =
     s.ends (rest, p, subst (λ ts. SpellsProgram ts p) (s.all ∙ sym (next_front s.front rest t)) d)
 
--- two cuts of one list, by which of them is later
+-- Two cuts of one list, by which of them is later.
 data Later (a b c d : List Spot) : Type 0 where
   second : (m : List Spot) → c ≡ a ++ m → b ≡ m ++ d → Later a b c d
   first : (m : List Spot) → a ≡ c ++ m → d ≡ m ++ b → Later a b c d

@@ -13,7 +13,7 @@ use Rattle.array_lang.specs.Nesting.{is_mark, marks_after, marks_beyond, express
 use Rattle.array_lang.specs.declared.nesting.Reach.{Reach}
 use Rattle.array_lang.specs.declared.nesting.Reach.TheVariants.{Outside, Target, Inside}
 
--- the index of the first true one, or else the index found behind these
+-- The index of the first true one, or else the index found behind these.
 abbrev lead : List Bool → Option ℕ → Option ℕ
 lead [] o = o
 lead (b ∷ bs) o = first_over b (lead bs o)
@@ -82,14 +82,14 @@ whole_leads {s} {t} d depth h =
 passed : (depth : ℕ) (t : Spot) (ts : List Spot) → reach_after Outside t.lexeme ≡ Outside → depth_after depth t.lexeme ≡ depth → depth ≤ 32 → nested_at Outside depth (t ∷ ts) ≡ later (nested_at Outside depth ts)
 passed depth t ts e f h = plain Outside Outside depth depth t ts e f (outside_over depth h)
 
--- the value of an assignment, and its end
+-- The value of an assignment, and its end.
 value_leads : {s u : List Spot} {x : Expression} {a n : ℕ} (d : SpellsExpression s (spot (sign signs.Semicolon) a n ∷ u) x) (depth : ℕ) → depth ≤ 32 → nested_at (Inside 0) depth s ≡ lead (expression_beyond d ++ false ∷ []) (nested_at Outside depth u)
 value_leads {u} {a} {n} d depth h =
     whole_leads d depth h
     ∙ ap (lead (expression_beyond d)) (plain (Inside (whole_marks d)) Outside depth depth (spot (sign signs.Semicolon) a n) u refl refl (outside_over depth h))
     ∙ sym (lead-append (expression_beyond d) (false ∷ []) (nested_at Outside depth u))
 
--- the signs between the index of a target and its value
+-- The signs between the index of a target and its value.
 equals_leads : (m depth a n a1 n1 : ℕ) (ts : List Spot) → depth ≤ 32 → m ≤ 64 → nested_at (Inside m) depth (spot (sign signs.CloseIndex) a n ∷ spot (sign signs.Assign) a1 n1 ∷ ts) ≡ later (later (nested_at (Inside 0) depth ts))
 equals_leads m depth a n a1 n1 ts h k =
     plain (Inside m) (Inside m) depth depth (spot (sign signs.CloseIndex) a n) (spot (sign signs.Assign) a1 n1 ∷ ts) refl refl (few_over depth m h k)

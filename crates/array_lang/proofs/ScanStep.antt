@@ -7,7 +7,7 @@ use Rattle.array_lang.specs.Parsing.Scan.{reach_after, depth_after, is_over, nes
 use Rattle.array_lang.specs.Nesting.{later, first_over}
 use Rattle.array_lang.specs.declared.nesting.Reach.{Reach}
 
--- the index in a longer list, with n more tokens in front
+-- The index in a longer list, with n more tokens in front.
 abbrev pub further : ℕ → Option ℕ → Option ℕ
 further n None = None
 further n (Some k) = Some (n + k)

@@ -27,7 +27,7 @@ data MinusAt : List Spot → List Spot → ℕ → Type 0 where
   no_minus : {s : List Spot} → MinusAt s s zero
   one_minus : {s t : List Spot} {k a n : ℕ} → MinusAt s (spot (sign signs.Minus) a n ∷ t) k → MinusAt s t (suc k)
 
--- the unfinished operands of this level stand from s up to t
+-- The unfinished operands of this level stand from s up to t.
 data LevelAt : List Spot → List Spot → Level → Type 0 where
   level : {s s1 s2 s3 t : List Spot} {c z w : Left} {k : ℕ} → CompareAt s s1 c → SumAt s1 s2 z → TermAt s2 s3 w → MinusAt s3 t k → LevelAt s t (record { compare = c; sum = z; term = w; minus = k })
 
@@ -55,19 +55,19 @@ operand_factor : {s t : List Spot} {x : Operand} → OperandAt s t x → SpellsF
 operand_factor (bare_at d) = d
 operand_factor called_at = named
 
--- from s, where an outermost expression begins, up to t, where one inside it does
+-- From s, where an outermost expression begins, up to t, where one inside it does.
 data OutersAt : List Spot → List Spot → List Outer → Type 0 where
   outermost : {s : List Spot} → OutersAt s s []
   in_group : {s r t : List Spot} {l : Level} {outers : List Outer} {a n : ℕ} → OutersAt s r outers → LevelAt r (spot (sign signs.OpenGroup) a n ∷ t) l → OutersAt s t (group l ∷ outers)
   in_index : {s r t : List Spot} {b : List ℕ} {l : Level} {outers : List Outer} {a n a1 n1 : ℕ} → OutersAt s r outers → LevelAt r (spot (name b) a n ∷ spot (sign signs.OpenIndex) a1 n1 ∷ t) l → OutersAt s t (index b l ∷ outers)
 
--- from s, where a statement begins, up to t, where an outermost expression of it does
+-- From s, where a statement begins, up to t, where an outermost expression of it does.
 data TopAt : List Spot → List Spot → Top → Type 0 where
   target_at : {t : List Spot} {b : List ℕ} {a n a1 n1 : ℕ} → TopAt (spot (name b) a n ∷ spot (sign signs.OpenIndex) a1 n1 ∷ t) t (target n b)
   value_at : {s t : List Spot} {b : List ℕ} {x : Expression} {a n a1 n1 a2 n2 a3 n3 : ℕ} → SpellsExpression s (spot (sign signs.CloseIndex) a2 n2 ∷ spot (sign signs.Assign) a3 n3 ∷ t) x → TopAt (spot (name b) a n ∷ spot (sign signs.OpenIndex) a1 n1 ∷ s) t (value n b x)
   condition_at : {t : List Spot} {a n : ℕ} → TopAt (spot (word words.If) a n ∷ t) t (condition n)
 
--- from s, where a `for` or a `team` begins, up to t, after its first word
+-- From s, where a `for` or a `team` begins, up to t, after its first word.
 data RangedAt : List Spot → List Spot → Ranged → ℕ → Type 0 where
   for_word : {t : List Spot} {a n : ℕ} → RangedAt (spot (word words.For) a n ∷ t) t looping n
   team_word : {t : List Spot} {a n : ℕ} → RangedAt (spot (word words.Team) a n ∷ t) t teaming n
@@ -93,7 +93,7 @@ bounded_at : {r s t : List Spot} {slot : Slot} {v : ℤ} → SlotAt r s slot →
 bounded_at (low_at e) d = dots_next e d
 bounded_at (high_at e f) d = range_done e (range f d)
 
--- from s, where a declaration begins, up to t
+-- From s, where a declaration begins, up to t.
 data ArrayAt : List Spot → List Spot → Position → Type 0 where
   after_word : {t : List Spot} {a n : ℕ} → ArrayAt (spot (word words.Array) a n ∷ t) t (array_name n)
   after_name : {t : List Spot} {b : List ℕ} {a n a1 n1 : ℕ} → ArrayAt (spot (word words.Array) a n ∷ spot (name b) a1 n1 ∷ t) t (array_open n b)
@@ -108,7 +108,7 @@ more_declarations : {s t u : List Spot} {d : Declaration} {ds : List Declaration
 more_declarations no_declaration e = next_declaration e no_declaration
 more_declarations (next_declaration f g) e = next_declaration f (more_declarations g e)
 
--- these blocks stand from s up to t
+-- These blocks stand from s up to t.
 data SidesAt : List Spot → List Spot → List Sequence → Type 0 where
   no_side : {s : List Spot} → SidesAt s s []
   one_side : {s t u : List Spot} {p : Sequence} {ps : List Sequence} → SpellsBlock s t p → SidesAt t u ps → SidesAt s u (p ∷ ps)
@@ -121,7 +121,7 @@ all_sides : {s r t : List Spot} {p : Sequence} {ps : List Sequence} {a k : ℕ} 
 all_sides no_side e = last_branch e
 all_sides (one_side f g) e = next_branch f (all_sides g e)
 
--- these blocks stand from s up to t, each with a `barrier` after it
+-- These blocks stand from s up to t, each with a `barrier` after it.
 data PhasesAt : List Spot → List Spot → List Sequence → Type 0 where
   no_phase : {s : List Spot} → PhasesAt s s []
   one_phase : {s t u : List Spot} {p : Sequence} {ps : List Sequence} {a k : ℕ} → SpellsBlock s (spot (word words.Barrier) a k ∷ t) p → PhasesAt t u ps → PhasesAt s u (p ∷ ps)
@@ -134,7 +134,7 @@ all_phases : {s r t : List Spot} {p : Sequence} {ps : List Sequence} → PhasesA
 all_phases no_phase e = last_phase e
 all_phases (one_phase f g) e = next_phase f (all_phases g e)
 
--- from s, where a team begins, up to t, where its phases do
+-- From s, where a team begins, up to t, where its phases do.
 data CrewAt : List Spot → List Spot → Crew → Type 0 where
   crew_at : {s t : List Spot} {b : List ℕ} {low high : ℤ} {members a n a1 n1 a2 n2 : ℕ} →
       SpellsRange s (spot (word words.By) a1 n1 ∷ spot (number members) a2 n2 ∷ t) b low high →
@@ -143,7 +143,7 @@ data CrewAt : List Spot → List Spot → Crew → Type 0 where
 whole_team : {s r t : List Spot} {c : Crew} (ps : List Sequence) → CrewAt s r c → SpellsPhases r t (sequences ps) → SpellsStatement s t (team_of c ps)
 whole_team ps (crew_at d) e = teamed d e
 
--- from s, where a statement begins, up to t, where a block of it does
+-- From s, where a statement begins, up to t, where a block of it does.
 data BranchAt : List Spot → List Spot → Branch → Type 0 where
   then_at : {s t : List Spot} {x : Expression} {a n a1 n1 : ℕ} → SpellsExpression s (spot (sign signs.OpenBlock) a1 n1 ∷ t) x → BranchAt (spot (word words.If) a n ∷ s) t (then_side n x)
   else_at : {s t u : List Spot} {x : Expression} {p : Sequence} {a n a1 n1 a2 n2 : ℕ} → SpellsExpression s t x → SpellsBlock t (spot (word words.Else) a1 n1 ∷ spot (sign signs.OpenBlock) a2 n2 ∷ u) p → BranchAt (spot (word words.If) a n ∷ s) u (else_side n x p)
@@ -151,7 +151,7 @@ data BranchAt : List Spot → List Spot → Branch → Type 0 where
   par_at : {s t : List Spot} {ps : List Sequence} {a n a1 n1 a2 n2 : ℕ} → SidesAt s (spot (sign signs.OpenBlock) a2 n2 ∷ t) ps → BranchAt (spot (word words.Par) a n ∷ spot (sign signs.OpenBlock) a1 n1 ∷ s) t (in_par n ps)
   team_at : {s r t : List Spot} {c : Crew} {ps : List Sequence} {a n : ℕ} → CrewAt s r c → PhasesAt r (spot (sign signs.OpenBlock) a n ∷ t) ps → BranchAt s t (in_team c ps)
 
--- the declarations, the open blocks and the statements so far stand from s up to t
+-- The declarations, the open blocks and the statements so far stand from s up to t.
 data NestAt : List Spot → List Spot → List Declaration → List Statement → List Frame → Type 0 where
   outside : {s r t : List Spot} {ds : List Declaration} {d : List Statement} → SpellsDeclarations s r ds → SpellsSequence r t (sequence d) → NestAt s t ds d []
   inside : {s r r1 t : List Spot} {ds : List Declaration} {d : List Statement} {f : Frame} {frames : List Frame} → NestAt s r ds f.before frames → BranchAt r r1 f.branch → SpellsSequence r1 t (sequence d) → NestAt s t ds d (f ∷ frames)
@@ -164,7 +164,7 @@ with_statement : {s t u : List Spot} {c : Statement} {ds : List Declaration} {d 
 with_statement {d} (outside a g) e = outside a (more_statements d g e)
 with_statement {d} (inside m b g) e = inside m b (more_statements d g e)
 
--- the tokens from s up to t lead to the state
+-- The tokens from s up to t lead to the state.
 data At : List Spot → List Spot → Mode → Nest → Type 0 where
   at_declaring : {s t : List Spot} {ds : List Declaration} → SpellsDeclarations s t ds → At s t declaring (nest ds [] [])
   at_array_header : {s r t : List Spot} {ds : List Declaration} {q : Position} → SpellsDeclarations s r ds → ArrayAt r t q → At s t (header q) (nest ds [] [])

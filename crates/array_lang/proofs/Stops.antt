@@ -21,7 +21,7 @@ keyword w = spot (word w) 0 0
 abbrev zero_spot : Spot
 zero_spot = spot (number 0) 0 0
 
--- tokens that close what is open
+-- Tokens that close what is open.
 abbrev after_side : Branch → List Spot → List Spot
 after_side (in_par line ps) rest = mark signs.CloseBlock ∷ rest
 after_side b rest = rest
@@ -46,7 +46,7 @@ finish_outers [] rest = rest
 finish_outers (group l ∷ outers) rest = mark signs.CloseGroup ∷ finish_outers outers rest
 finish_outers (index b l ∷ outers) rest = mark signs.CloseIndex ∷ finish_outers outers rest
 
--- the rest of a range, from its upper bound on
+-- The rest of a range, from its upper bound on.
 abbrev finish_range : Ranged → List Spot → List Spot
 finish_range looping rest = empty_block rest
 finish_range teaming rest = keyword words.By ∷ zero_spot ∷ empty_block rest
@@ -130,7 +130,7 @@ weak_finish [] (condition line) frames = omega arith
 weak_finish (group l ∷ outers) top frames = omega arith
 weak_finish (index b l ∷ outers) top frames = omega arith
 
--- an empty block as the only or last one of its statement
+-- An empty block as the only or last one of its statement.
 empty_phase_ends : (c : Crew) (ps : List Sequence) (n : Nest) → Ends (phase_open c ps) n (empty_block (braces n.frames))
 empty_phase_ends c ps n = phase_ends c ps _ n (statement_ends n.frames n.arrays _)
 
@@ -182,7 +182,7 @@ finishes (par_side line ps p) n = statement_ends n.frames n.arrays _
 finishes (phase_open c ps) n = empty_phase_ends c ps n
 finishes (phase_closed c ps p) n = phase_ends c ps p n (statement_ends n.frames n.arrays _)
 
--- the state can't take the first token, or isn't the end of a program
+-- The state can't take the first token, or isn't the end of a program.
 abbrev Stuck : Mode → Nest → List Spot → Type 0
 Stuck m n [] = at_end m n.arrays n.done n.frames ≡ Err []
 Stuck m n (t ∷ rest) = step m n t.line t.lexeme ≡ None

@@ -6,51 +6,51 @@ use Rattle.array_tokens.specs.declared.token.Sign.TheVariants as signs
 use Rattle.array_tree.specs.Trees.{Expression, Statement, Sequence, Sequences, Declaration, ProgramTree}
 use Rattle.array_lang.specs.Grammar.{operator_of, SpellsExpression, SpellsBound, plain_bound, negative_bound, SpellsRange, range, SpellsStatement, assigned, looped, chosen, chosen_else, parallel, teamed, SpellsBranches, last_branch, next_branch, SpellsPhases, last_phase, next_phase, SpellsBlock, block, SpellsSequence, no_statement, next_statement, SpellsDeclarations, no_declaration, next_declaration, SpellsProgram}
 
--- how many marks an outermost expression has at most
+-- The greatest number of marks of an outermost expression.
 abbrev pub most_marks : ℕ
 most_marks = 64
 
--- how many braces are open at once at most
+-- The greatest number of braces that are open at once.
 abbrev pub most_open : ℕ
 most_open = 32
 
--- a token of an expression that is `(`, `[`, a minus sign or a binary operator
+-- A token of an expression is a mark if it is `(`, `[`, a minus sign or a binary operator.
 abbrev pub is_mark : Lexeme → Bool
 is_mark (sign signs.OpenGroup) = true
 is_mark (sign signs.OpenIndex) = true
 is_mark l = is_some (operator_of l)
 
--- the number of marks of the outermost expression after this token
+-- The number of marks of the outermost expression after this token.
 abbrev pub marks_after : ℕ → Lexeme → ℕ
 marks_after m l = if is_mark l then m + 1 else m
 
--- For each of these tokens of an outermost expression: whether it is a mark too many, where m marks stand before.
+-- For each of these tokens of an outermost expression: whether the token is a mark too many, if m marks stand before the tokens.
 abbrev pub marks_beyond : ℕ → List Spot → List Bool
 marks_beyond m [] = []
 marks_beyond m (t ∷ ts) =
     (is_mark t.lexeme && nat_le most_marks m) ∷ marks_beyond (marks_after m t.lexeme) ts
 
--- the tokens from s up to t
+-- The tokens from s up to t.
 abbrev pub between : List Spot → List Spot → List Spot
 between s t = take (length s - length t) s
 
--- whether each token of an expression passes the limit on marks
+-- For each token of an expression: whether the token passes the limit on marks.
 abbrev pub expression_beyond : {s t : List Spot} {x : Expression}
     → SpellsExpression s t x → List Bool
 expression_beyond {s} {t} d = marks_beyond 0 (between s t)
 
--- the same for the tokens of a bound, which never pass it
+-- For each token of a bound: false, since no token of a bound passes the limit.
 abbrev pub bound_beyond : {s t : List Spot} {v : ℤ} → SpellsBound s t v → List Bool
 bound_beyond plain_bound = false ∷ []
 bound_beyond negative_bound = false ∷ false ∷ []
 
--- the same for the tokens of a range
+-- For each token of a range: false, since no token of a range passes the limit.
 abbrev pub range_beyond : {s t : List Spot} {b : List ℕ} {low high : ℤ}
     → SpellsRange s t b low high → List Bool
 range_beyond (range d e) = false ∷ false ∷ (bound_beyond d ++ false ∷ bound_beyond e)
 
--- For each token of a statement: whether it is a mark too many of its outermost expression, or opens a brace too many,
--- where `depth` braces are open around.
+-- For each token of a statement: whether the token is a mark too many of its outermost expression, or opens a brace too many,
+-- if `depth` braces are open around the statement.
 abbrev mutual
   pub statement_beyond : {s t : List Spot} {c : Statement} → (depth : ℕ)
       → SpellsStatement s t c → List Bool
@@ -84,33 +84,33 @@ abbrev mutual
   sequence_beyond depth no_statement = []
   sequence_beyond depth (next_statement d e) = statement_beyond depth d ++ sequence_beyond depth e
 
--- a declaration has six tokens, none of them a mark or a brace
+-- For each token of declarations: false. A declaration has six tokens, and contains no expression and no block.
 abbrev pub declarations_beyond : {s t : List Spot} {ds : List Declaration}
     → SpellsDeclarations s t ds → List Bool
 declarations_beyond no_declaration = []
 declarations_beyond (next_declaration d e) =
     false ∷ false ∷ false ∷ false ∷ false ∷ false ∷ declarations_beyond e
 
--- for each token of a program, whether it passes a limit
+-- For each token of a program: whether the token passes a limit.
 abbrev pub program_beyond : {tokens : List Spot} {p : ProgramTree}
     → SpellsProgram tokens p → List Bool
 program_beyond d = declarations_beyond d.declares ++ sequence_beyond 0 d.does
 
--- the index after this one
+-- The index after this one.
 abbrev pub later : Option ℕ → Option ℕ
 later None = None
 later (Some k) = Some (k + 1)
 
--- the index of the first token that passes a limit
+-- The index of the first token that passes a limit: 0 if the token at the front does, else one more than the rest's index.
 abbrev pub first_over : Bool → Option ℕ → Option ℕ
 first_over true rest = Some 0
 first_over false rest = later rest
 
--- the index of the first `true`
+-- The index of the first `true`.
 abbrev pub first_true : List Bool → Option ℕ
 first_true [] = None
 first_true (b ∷ bs) = first_over b (first_true bs)
 
--- the index of the first token of a program that passes a limit
+-- The index of the first token of a program that passes a limit.
 abbrev pub first_beyond : {tokens : List Spot} {p : ProgramTree} → SpellsProgram tokens p → Option ℕ
 first_beyond d = first_true (program_beyond d)

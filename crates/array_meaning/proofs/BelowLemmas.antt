@@ -5,7 +5,7 @@ use Rattle.std.proofs.lemmas.List.Elements.{All-nil, All-cons}
 use Rattle.array_meaning.specs.Stores.{Write}
 use Rattle.array_meaning.specs.Pieces.{lay, lays}
 
--- each write is to a cell below this one
+-- Each write is to a cell below this one.
 abbrev pub AreBelow : ℕ → List Write → Type 0
 AreBelow n [] = Unit {0}
 AreBelow n (w ∷ ws) = (w.0 < n) × AreBelow n ws

@@ -33,11 +33,11 @@ module _ (arrays : Arrays) (cell : ℕ) where
   abbrev reads : Steps → Bool
   reads p = read arrays (walk arrays p) cell
 
-  -- the piece clashes with earlier ones, of which some changed the cell, or read it
+  -- The piece clashes with earlier ones, of which some changed the cell, or read it.
   abbrev Meets : Bool → Bool → Steps → Type 0
   Meets w r p = (changes p && (r || w) || reads p && w) ≡ true
 
-  -- some piece clashes with earlier ones
+  -- Some piece clashes with earlier ones.
   record Met (w r : Bool) (ps : List Steps) : Type 0 where
     pub j : ℕ
     pub piece : Steps
@@ -156,7 +156,7 @@ module _ (arrays : Arrays) (cell : ℕ) where
   pub passes_of : (ps : List Steps) → IsClash arrays ps cell → overlaps arrays false false ps cell ≡ true
   passes_of ps c = ⊎_elim (λ h. h) (λ h. absurd (no_clash_of ps h c)) (either (overlaps arrays false false ps cell))
 
--- the first number that passes, or none if none does
+-- The first number that passes, or none if none does.
 abbrev IsFirst : (ℕ → Bool) → ℕ → ℕ → Option ℕ → Type 0
 IsFirst test i k None = (c : ℕ) → i ≤ c → c < i + k → test c ≡ false
 IsFirst test i k (Some reported) = (reported < i + k) × (test reported ≡ true) × ((c : ℕ) → i ≤ c → c < reported → test c ≡ false)

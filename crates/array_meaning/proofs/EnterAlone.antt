@@ -17,7 +17,7 @@ use Rattle.array_meaning.proofs.FrameLemmas.{walk_followed_by, touched_left, tou
 use Rattle.array_meaning.proofs.OrderLemmas.{separate_join}
 use Rattle.array_meaning.proofs.MemberLemmas.{span_cut, first_of_far}
 
--- a part: its steps, and what it enters
+-- A part: its steps, and what it enters.
 abbrev Part : Type 0
 Part = Steps × Entering
 
@@ -25,7 +25,7 @@ abbrev works_in : List Part → List Steps
 works_in [] = []
 works_in (p ∷ ps) = p.0 ∷ works_in ps
 
--- what parts enter in sequence, and what each enters from the one store
+-- What parts enter in sequence, and what each enters from the one store.
 abbrev threaded : Arrays → List Part → Entering
 threaded arrays [] store = []
 threaded arrays (p ∷ ps) store = entered_then arrays p (threaded arrays ps) store

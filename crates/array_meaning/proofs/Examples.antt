@@ -25,7 +25,7 @@ k = 107 ∷ []
 abbrev declared : List ℕ → ℤ → Declaration
 declared name length = record { line = 1; name = name; length = length }
 
--- cell x of array a becomes y
+-- Cell x of array a becomes y.
 abbrev assign : ℤ → ℤ → Statement
 assign x y = Assign 1 a (Number x) (Number y)
 

@@ -12,7 +12,7 @@ use Rattle.array_meaning.proofs.StepLemmas.{length_after}
 
 -- ---- stores and writes
 
--- the cell is among those that were written
+-- The cell is among those that were written.
 abbrev pub IsWritten : List Write → ℕ → Type 0
 IsWritten [] c = ⊥
 IsWritten (w ∷ ws) c = (w.0 ≡ c) ⊎ IsWritten ws c

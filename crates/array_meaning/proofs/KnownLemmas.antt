@@ -101,7 +101,7 @@ module _ (arrays : Arrays) (names : List (List ℕ)) where
         (turns_known (λ x. sequence_work first ((var, x) ∷ vars)) low (span low high) (λ x. sequence_known first (var ∷ around) ((var, x) ∷ vars) parts.0))
         (phases_known rest var low high around vars parts.1)
 
-  -- a member's loop
+  -- A member's loop.
   pub loop_known : (s : Sequence) (var : List ℕ) (low high : ℤ) (around : List (List ℕ)) (vars : Vars) → has_known_names s names (var ∷ around) ≡ true →
       are_known names (walk arrays (loop var low high (sequence_work s) vars)) ≡ true
   loop_known s var low high around vars h =

@@ -110,7 +110,7 @@ module _ (arrays : Arrays) where
   read_from (v ∷ vs) c (inl h) = or_left (not v.writes && covers arrays v.array v.index c) (read arrays vs c) (both_and (not v.writes) (covers arrays v.array v.index c) (ap not h.0) (covers_from v.array v.index c h.1))
   read_from (v ∷ vs) c (inr h) = or_right (not v.writes && covers arrays v.array v.index c) (read arrays vs c) (read_from vs c h)
 
-  -- none of these changes what was changed or read, or reads what was changed
+  -- None of these changes what was changed or read, or reads what was changed.
   abbrev Free : (ℕ → Bool) → (ℕ → Bool) → List Steps → Type 0
   Free w r [] = Unit {0}
   Free w r (p ∷ ps) = ((c : ℕ) → (changed arrays (walk arrays p) c && (r c || w c) || read arrays (walk arrays p) c && w c) ≡ false) × Free w r ps

@@ -29,7 +29,7 @@ pub ascii_both : (a b : List ℕ) → AreAscii a → AreAscii b → AreAscii (a 
 ascii_both [] b f g = g
 ascii_both (x ∷ a) b f g = (f.0, ascii_both a b f.1 g)
 
--- no byte of a name follows
+-- No byte of a name follows.
 abbrev pub NoName : List ℕ → Type 0
 NoName [] = Unit {0}
 NoName (b ∷ bs) = is_name_byte b ≡ false

@@ -35,7 +35,7 @@ prefix_name (b ∷ bs) rest a h = rw a.0 (ap (λ n. 1 + n) (prefix_name bs rest 
 letter_no_blank : (b : ℕ) → is_letter b ≡ true → (is_blank b ≡ false) × ((b == byte "#") ≡ false)
 letter_no_blank b h = (grind (arith, nat_tests), grind (arith, nat_tests))
 
--- a name or a word
+-- A name or a word.
 front_named : (b : ℕ) (bs rest : List ℕ) (o : Option Word) → is_letter b ≡ true → AreNameBytes bs → word_of (b ∷ bs) ≡ o → NoName rest → (piece (named (b ∷ bs) o), suc (length bs)) ≡ front_of b (b ∷ (bs ++ rest))
 front_named b bs rest o letter bytes w h =
     let tail : prefix_len is_name_byte (bs ++ rest) ≡ length bs = prefix_name bs rest bytes h in
@@ -51,7 +51,7 @@ cuts_name (b ∷ bs) n = cuts_one b bs (name (b ∷ bs)) (letter_ascii b n.0, na
 pub cuts_word : (b : ℕ) (bs : List ℕ) (w : Word) → is_letter b ≡ true → AreNameBytes bs → word_of (b ∷ bs) ≡ Some w → CutsInto (b ∷ bs) (One (word w)) NoName
 cuts_word b bs w letter bytes is = cuts_one b bs (word w) (letter_ascii b letter, name_ascii bs bytes) (λ rest h. front_named b bs rest (Some w) letter bytes is h)
 
--- a sign of one byte that no other begins with
+-- A sign of one byte that no other begins with.
 pub cuts_sign : (b : ℕ) (g : Sign) → is_ascii b ≡ true → (piece (sign g), 1) ≡ front_of b (b ∷ []) → ((c : ℕ) (rest : List ℕ) → (piece (sign g), 1) ≡ front_of b (b ∷ c ∷ rest)) → CutsInto (b ∷ []) (One (sign g)) Anything
 cuts_sign b g small alone before = cuts_one b [] (sign g) (small, tt) (λ rest h. either rest)
   where
@@ -86,7 +86,7 @@ cuts_minus = cuts_sign 45 signs.Minus refl refl (λ c rest. refl)
 pub cuts_range : CutsInto (46 ∷ 46 ∷ []) (One (sign signs.Range)) Anything
 cuts_range = cuts_one 46 (46 ∷ []) (sign signs.Range) (refl, (refl, tt)) (λ rest h. refl)
 
--- text behind a space, and before one
+-- Text behind a space, and before one.
 pub cuts_after_space : {R : List Spot → List Spot → Type 0} {Safe : List ℕ → Type 0} {text : List ℕ} → CutsInto text R Safe → CutsInto (32 ∷ text) R Safe
 cuts_after_space {R} f = cuts_as (cuts_both cuts_space f (λ rest h. tt)) (λ s t d. drop_first d)
   where
@@ -107,11 +107,11 @@ blank_sign : (b : ℕ) (bs : List ℕ) (l : Lexeme) → ((rest : List ℕ) → (
 blank_sign b bs l f [] h = absurd h
 blank_sign b bs l f (c ∷ rest) h = rw h (f rest)
 
--- a sign with one space on both sides
+-- A sign with one space on both sides.
 pub cuts_spaced : (b : ℕ) (bs : List ℕ) (g : Sign) → AreAscii (b ∷ bs) → ((rest : List ℕ) → (piece (sign g), suc (length bs)) ≡ front_of b (b ∷ (bs ++ 32 ∷ rest))) → CutsInto (32 ∷ ((b ∷ bs) ++ 32 ∷ [])) (One (sign g)) Anything
 cuts_spaced b bs g small f = cuts_after_space (cuts_before cuts_space (λ rest. refl) (cuts_one {Safe = BlankFirst} b bs (sign g) small (blank_sign b bs (sign g) f)))
 
--- numbers
+-- Numbers.
 
 abbrev AreDigits : List ℕ → Type 0
 AreDigits [] = Unit {0}
@@ -167,7 +167,7 @@ cuts_number n small =
     subst (λ m. CutsInto (decimal n) (One (number m)) NoName) v
     (digits_cut (decimal n) (decimal_is_IsNumeral n fits).0.0 (digits_decimal own n fits) (ap (λ m. nat_le m greatest_literal) v ∙ le))
 
--- the bound of a loop
+-- The bound of a loop.
 abbrev Bound : ℤ → List Spot → List Spot → Type 0
 Bound v s t = SpellsBound s t v
 

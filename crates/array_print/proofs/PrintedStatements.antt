@@ -48,7 +48,7 @@ record IsBranches (depth : ℕ) (ps : Sequences) (s t : List Spot) : Type 0 wher
   same : lineless_sequences trees ≡ lineless_sequences ps
   fits : no_true (branches_beyond depth d) ≡ true
 
--- blocks beside one another, and blocks behind barriers
+-- Blocks beside one another, and blocks behind barriers.
 data Beside (depth : ℕ) : Sequences → List Spot → List Spot → Type 0 where
   none_beside : {s : List Spot} → Beside depth no_more s s
   one_beside : {s t u : List Spot} {p : Sequence} {ps : Sequences} → IsBlock depth p s t → Beside depth ps t u → Beside depth (beside p ps) s u
@@ -63,7 +63,7 @@ and_true p q = rw p q
 below : (depth : ℕ) → depth < 32 → not (nat_le 32 depth) ≡ true
 below depth h = grind (arith, nat_tests)
 
--- branches up to the brace behind them
+-- Branches up to the brace behind them.
 branches_of : {depth : ℕ} {s t : List Spot} {a n : ℕ} (p : Sequence) (ps : Sequences) {u : List Spot} → IsBlock depth p s u → Beside depth ps u (spot (sign signs.CloseBlock) a n ∷ t) → IsBranches depth (beside p ps) s t
 branches_of {depth} p no_more b none_beside = record { trees = beside b.tree no_more; d = last_branch b.d; same = ap (λ q. beside q no_more) b.same; fits = no_true-both (block_beyond depth b.d) (false ∷ []) b.fits refl }
 branches_of {depth} p (beside q qs) b (one_beside c rest) =
@@ -86,7 +86,7 @@ phases_of {depth} p (beside q qs) b (one_later c rest) =
       fits = no_true-both (block_beyond depth b.d) (false ∷ phases_beyond depth r.d) b.fits r.fits;
     }
 
--- the words, each with the space behind it
+-- The words, each with the space behind it.
 
 cuts_for : CutsInto (codes "for ") (One (word words.For)) Anything
 cuts_for = cuts_before cuts_space (λ rest. refl) (cuts_word 102 (111 ∷ 114 ∷ []) words.For refl (refl, (refl, tt)) refl)
@@ -127,7 +127,7 @@ semicolon_line = cuts_before cuts_newline (λ rest. tt) cuts_semicolon
 cuts_target_end : CutsInto (codes "] = ") (Then (One (sign signs.CloseIndex)) (One (sign signs.Assign))) Anything
 cuts_target_end = cuts_both cuts_close_index (cuts_spaced 61 [] signs.Assign (refl, tt) (λ rest. refl)) (λ rest h. tt)
 
--- a loop variable with its bounds
+-- A loop variable with its bounds.
 range_is : {b : List ℕ} {low high : ℤ} {s t : List Spot} → Then (Then (Then (Then (One (name b)) (One (word words.In))) (λ s t. SpellsBound s t low)) (One (sign signs.Range))) (λ s t. SpellsBound s t high) s t → SpellsRange s t b low high
 range_is (joined (joined (joined (joined one one) low) one) high) = range low high
 
@@ -151,7 +151,7 @@ block_cuts : (depth : ℕ) (margin : List ℕ) (p : Sequence) → IsMargin margi
 block_cuts depth margin p m h f =
     cuts_as (cuts_both (cuts_both (cuts_both open_line f (λ rest s. tt)) m (λ rest s. tt)) cuts_close_block (λ rest s. tt)) (λ s t d. block_is h d)
 
--- a branch, whose brace stands in the margin
+-- A branch, whose brace stands in the margin.
 branch_is : {depth : ℕ} {p : Sequence} {s t : List Spot} → depth < 32 → Then (Then (Then (Then Nothing (One (sign signs.OpenBlock))) (IsSequence (depth + 1) p)) Nothing) (One (sign signs.CloseBlock)) s t → IsBlock depth p s t
 branch_is {depth} h (joined (joined (joined (joined nothing one) q) nothing) one) = record { tree = q.tree; d = block q.d; same = q.same; fits = and_true (below depth h) (no_true-both (sequence_beyond (depth + 1) q.d) (false ∷ []) q.fits refl) }
 
@@ -164,7 +164,7 @@ branch_cuts depth margin p m h f =
     (cuts_both (cuts_both (cuts_both (cuts_both m branch_line (λ rest s. tt)) f (λ rest s. tt)) m (λ rest s. tt)) close_line (λ rest s. tt))
     (λ s t d. branch_is h d)
 
--- an `else` side, or none
+-- An `else` side, or none.
 data IsElse (depth : ℕ) : Sequence → List Spot → List Spot → Type 0 where
   no_else : {s : List Spot} → IsElse depth ended s s
   some_else : {s t : List Spot} {a n : ℕ} {q : Sequence} → IsBlock depth q s t → IsElse depth q (spot (word words.Else) a n ∷ s) t
@@ -183,7 +183,7 @@ else_cuts depth margin inside (followed c p) f = cuts_as (cuts_both cuts_else f 
 whole_fits : {x : Expression} {s t : List Spot} (e : IsExpression x (marks_of x) s t) → IsWhole x → no_true (expression_beyond e.d) ≡ true
 whole_fits e w = few_clear e.d (omega (arith, e.few, w.1))
 
--- the target of an assignment, up to its sign
+-- The target of an assignment, up to its sign.
 abbrev Target : List ℕ → Expression → List Spot → List Spot → Type 0
 Target b x s t = Then (Then (Then (One (name b)) (One (sign signs.OpenIndex))) (IsExpression x (marks_of x))) (Then (One (sign signs.CloseIndex)) (One (sign signs.Assign))) s t
 
@@ -222,7 +222,7 @@ parallel_is {depth} (beside p ps) some h (joined (joined (joined (joined nothing
     let r = branches_of p ps b rest in
     record { tree = Par n r.trees; d = parallel r.d; same = ap (Par 0) r.same; fits = and_true (below depth h) r.fits }
 
--- the token of a number
+-- The token of a number.
 abbrev pub IsLiteral : ℤ → List Spot → List Spot → Type 0
 IsLiteral (pos n) s t = One (number n) s t
 IsLiteral (negsuc n) s t = ⊥

@@ -16,7 +16,7 @@ use Rattle.array_print.specs.Texts.{op_strength, strength_of, groups_left, group
 use Rattle.array_print.specs.Writable.{IsName, IsBound, IsPrintable, IsWhole, IsSome, CanStand, CanFollow, CanBranch, parens, marks_of}
 use Rattle.array_print.proofs.SpelledTokens.{AreGood}
 
--- names and numbers
+-- Names and numbers.
 
 mutual
   expression_good : {s t : List Spot} {x : Expression} → SpellsExpression s t x → AreGood s → IsPrintable x × AreGood t
@@ -115,7 +115,7 @@ whole_of {x} d h clear =
     let few : marks_of x ≤ 64 = omega (arith, clear_few d clear, expression_least d) in
     ((p.0, few), p.1)
 
--- bounds of loops
+-- Bounds of loops.
 
 negative_is : (k : ℕ) → k ≤ greatest_literal → IsBound (neg_ℤ (pos k))
 negative_is zero h = omega arith

@@ -3,7 +3,7 @@ use Rattle.std.specs.Prelude.{◌≡◌, ℕ, List, map}
 use Rattle.array_tree.specs.Trees.{Statement, Assign, For, If, Par, Team, Sequence, ended, followed, Sequences, no_more, beside, Declaration, ProgramTree}
 use Rattle.array_lang.specs.Spelled.{Spells}
 
--- a tree with 0 for each of its line numbers
+-- A tree with 0 for each of its line numbers.
 abbrev mutual
   pub lineless_statement : Statement → Statement
   lineless_statement (Assign line array index value) = Assign 0 array index value
@@ -24,11 +24,11 @@ abbrev mutual
   lineless_sequences (beside first rest) =
       beside (lineless_sequence first) (lineless_sequences rest)
 
--- a declaration with line 0
+-- A declaration with line 0.
 abbrev pub lineless_declaration : Declaration → Declaration
 lineless_declaration array = record { line = 0; name = array.name; length = array.length }
 
--- a program with 0 for each of its line numbers
+-- A program with 0 for each of its line numbers.
 abbrev pub lineless : ProgramTree → ProgramTree
 lineless program = record {
   arrays = map lineless_declaration program.arrays;

@@ -39,12 +39,12 @@ groups_right op right = nat_le (strength_of right) (op_strength op)
 abbrev pub groups_negated : Expression → Bool
 groups_negated operand = nat_lt (strength_of operand) 4
 
--- a text, in parentheses where the test says so
+-- A text, in parentheses where the test says so.
 abbrev pub grouped_text : Bool → List ℕ → List ℕ
 grouped_text true text = codes "(" ++ text ++ codes ")"
 grouped_text false text = text
 
--- an operator, with one space on both sides
+-- An operator, with one space on both sides.
 abbrev pub op_text : Op → List ℕ
 op_text ops.Add = codes " + "
 op_text ops.Sub = codes " - "
@@ -69,16 +69,16 @@ expression_text (Binary op left right) =
     grouped_text (groups_left op left) (expression_text left) ++ op_text op
     ++ grouped_text (groups_right op right) (expression_text right)
 
--- what an assignment begins with: the array, its index and the sign
+-- What an assignment begins with: the array, its index and the sign.
 abbrev pub target_text : List ℕ → Expression → List ℕ
 target_text array index = array ++ codes "[" ++ expression_text index ++ codes "] = "
 
--- a loop variable with its bounds
+-- A loop variable with its bounds.
 abbrev pub range_text : List ℕ → ℤ → ℤ → List ℕ
 range_text var low high =
     var ++ codes " in " ++ signed_decimal low ++ codes ".." ++ signed_decimal high
 
--- the same, with the members to whom the iterations are dealt
+-- A loop variable with its bounds, and the number of members to which the iterations are dealt.
 abbrev pub dealt_text : List ℕ → ℤ → ℤ → ℤ → List ℕ
 dealt_text var low high members = range_text var low high ++ codes " by " ++ signed_decimal members
 
@@ -86,20 +86,20 @@ dealt_text var low high members = range_text var low high ++ codes " by " ++ sig
 abbrev pub wider : List ℕ → List ℕ
 wider margin = margin ++ codes "  "
 
--- a block around statements of this text; it opens on the line that is under way, and closes on a line of its own
+-- A block around statements of this text; it opens on the line that is under way, and closes on a line of its own.
 abbrev pub block_text : List ℕ → List ℕ → List ℕ
 block_text margin inside = codes " {\n" ++ inside ++ margin ++ codes "}"
 
--- an `else` before its block, and nothing where that is empty
+-- An `else` before its block, and nothing where that is empty.
 abbrev pub else_text : Sequence → List ℕ → List ℕ
 else_text ended block = []
 else_text (followed first rest) block = codes " else" ++ block
 
--- a branch of a `par` around statements of this text, on lines of its own
+-- A branch of a `par` around statements of this text, on lines of its own.
 abbrev pub branch_text : List ℕ → List ℕ → List ℕ
 branch_text margin inside = margin ++ codes "{\n" ++ inside ++ margin ++ codes "}\n"
 
--- what stands before a phase's block: nothing before the first
+-- What stands before a phase's block: nothing before the first.
 abbrev pub barrier_text : Bool → List ℕ
 barrier_text true = codes " barrier"
 barrier_text false = []
@@ -139,11 +139,11 @@ abbrev mutual
       barrier_text is_later ++ block_text margin (sequence_text (wider margin) first)
       ++ phases_text true margin rest
 
--- a block with its statements
+-- A block with its statements.
 abbrev pub body_text : List ℕ → Sequence → List ℕ
 body_text margin body = block_text margin (sequence_text (wider margin) body)
 
--- the line of a declaration
+-- The line of a declaration.
 abbrev pub declaration_text : Declaration → List ℕ
 declaration_text array =
     codes "array " ++ array.name ++ codes "[" ++ signed_decimal array.length ++ codes "];\n"

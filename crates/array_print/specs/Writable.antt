@@ -6,32 +6,32 @@ use Rattle.array_tree.specs.Trees.{Expression, Number, Var, Read, Neg, Binary, S
 use Rattle.array_lang.specs.Nesting.{most_marks, most_open}
 use Rattle.array_print.specs.Texts.{groups_left, groups_right, groups_negated}
 
--- each byte may occur in a name
+-- Each byte may occur in a name.
 abbrev pub AreNameBytes : List ℕ → Type 0
 AreNameBytes [] = Unit {0}
 AreNameBytes (b ∷ bs) = (is_name_byte b ≡ true) × AreNameBytes bs
 
--- a letter, then letters and digits, and no word
+-- A letter, then letters and digits, and no word.
 abbrev pub IsName : List ℕ → Type 0
 IsName [] = ⊥
 IsName (b ∷ bs) = (is_letter b ≡ true) × AreNameBytes bs × (word_of (b ∷ bs) ≡ None)
 
--- a number, which has no sign
+-- A number, which has no sign.
 abbrev pub IsNumber : ℤ → Type 0
 IsNumber (pos n) = n ≤ greatest_literal
 IsNumber (negsuc n) = ⊥
 
--- the bound of a loop, positive or negative
+-- The bound of a loop, positive or negative.
 abbrev pub IsBound : ℤ → Type 0
 IsBound (pos n) = n ≤ greatest_literal
 IsBound (negsuc n) = suc n ≤ greatest_literal
 
--- a pair of parentheses is one mark
+-- A pair of parentheses is one mark.
 abbrev pub parens : Bool → ℕ
 parens true = 1
 parens false = 0
 
--- the marks of an expression's printed text
+-- The marks of an expression's printed text.
 abbrev pub marks_of : Expression → ℕ
 marks_of (Number v) = 0
 marks_of (Var b) = 0
@@ -40,7 +40,7 @@ marks_of (Neg x) = 1 + (parens (groups_negated x) + marks_of x)
 marks_of (Binary op x y) =
     (parens (groups_left op x) + marks_of x) + 1 + (parens (groups_right op y) + marks_of y)
 
--- an expression whose names and numbers are some that texts spell
+-- An expression whose names and numbers are some that texts spell.
 abbrev pub IsPrintable : Expression → Type 0
 IsPrintable (Number v) = IsNumber v
 IsPrintable (Var b) = IsName b
@@ -48,16 +48,16 @@ IsPrintable (Read b x) = IsName b × IsPrintable x
 IsPrintable (Neg x) = IsPrintable x
 IsPrintable (Binary op x y) = IsPrintable x × IsPrintable y
 
--- an outermost expression that texts spell within the limit on marks
+-- An outermost expression that texts spell within the limit on marks.
 abbrev pub IsWhole : Expression → Type 0
 IsWhole x = IsPrintable x × (marks_of x ≤ most_marks)
 
--- there is at least one branch or phase
+-- There is at least one branch or phase.
 abbrev pub IsSome : Sequences → Type 0
 IsSome no_more = ⊥
 IsSome (beside p rest) = Unit {0}
 
--- statements that texts spell inside this many open braces
+-- Statements that texts spell inside this many open braces.
 abbrev mutual
   pub CanStand : ℕ → Statement → Type 0
   CanStand depth (Assign line array index value) = IsName array × IsWhole index × IsWhole value
@@ -80,12 +80,12 @@ abbrev mutual
   CanBranch depth (beside first rest) =
       (depth < most_open) × CanFollow (depth + 1) first × CanBranch depth rest
 
--- declarations that texts spell
+-- Declarations that texts spell.
 abbrev pub AreDeclarable : List Declaration → Type 0
 AreDeclarable [] = Unit {0}
 AreDeclarable (d ∷ ds) = IsName d.name × IsNumber d.length × AreDeclarable ds
 
--- a program that some text spells
+-- A program that some text spells.
 pub record IsWritable (p : ProgramTree) : Type 0 where
   pub declares : AreDeclarable p.arrays
   pub does : CanFollow 0 p.body

@@ -6,7 +6,7 @@ use Rattle.array_tree.specs.declared.tree.Op.{Op}
 use Rattle.array_tree.specs.declared.tree.Op.TheVariants as ops
 use Rattle.array_tree.specs.Trees.{Expression, Number, Var, Read, Neg, Binary, Statement, Assign, For, If, Par, Team, Sequence, ended, followed, Sequences, no_more, beside, Declaration, ProgramTree}
 
--- a number for each operator
+-- A number for each operator.
 abbrev pub op_number : Op → ℕ
 op_number ops.Add = 0
 op_number ops.Sub = 1
@@ -20,11 +20,11 @@ op_number ops.GreaterEq = 8
 op_number ops.Equal = 9
 op_number ops.NotEqual = 10
 
--- the test of two names
+-- The test of two names.
 abbrev pub name_eq : List ℕ → List ℕ → Bool
 name_eq a b = pointwise nat_eq a b
 
--- the test of two expressions
+-- The test of two expressions.
 abbrev pub expression_eq : Expression → Expression → Bool
 expression_eq (Number m) (Number n) = int_eq m n
 expression_eq (Var a) (Var b) = name_eq a b
@@ -34,7 +34,7 @@ expression_eq (Binary o x y) (Binary p u v) =
     nat_eq (op_number o) (op_number p) && (expression_eq x u && expression_eq y v)
 expression_eq x y = false
 
--- the tests of two statements, sequences, and branches or phases
+-- The tests of two statements, sequences, and branches or phases.
 abbrev mutual
   pub statement_eq : Statement → Statement → Bool
   statement_eq (Assign k a i v) (Assign l b j w) =
@@ -59,14 +59,14 @@ abbrev mutual
   sequences_eq (beside p bs) (beside q cs) = sequence_eq p q && sequences_eq bs cs
   sequences_eq bs cs = false
 
--- the test of two declarations
+-- The test of two declarations.
 abbrev pub declaration_eq : Declaration → Declaration → Bool
 declaration_eq d e = nat_eq d.line e.line && (name_eq d.name e.name && int_eq d.length e.length)
 
--- the test of two lists of declarations
+-- The test of two lists of declarations.
 abbrev pub declarations_eq : List Declaration → List Declaration → Bool
 declarations_eq ds es = pointwise declaration_eq ds es
 
--- the test of two programs
+-- The test of two programs.
 abbrev pub program_eq : ProgramTree → ProgramTree → Bool
 program_eq p q = declarations_eq p.arrays q.arrays && sequence_eq p.body q.body

@@ -46,7 +46,7 @@ int_same m n h = grind (arith, common_steps, Decides-int_eq m n)
 number_refl : (n : ℕ) → nat_eq n n ≡ true
 number_refl n = eq-eqb n n refl
 
--- expressions that pass the test are equal
+-- Expressions that pass the test are equal.
 pub expression_same : (x y : Expression) → expression_eq x y ≡ true → x ≡ y
 expression_same (Number m) (Number n) h = ap Number (int_same m n h)
 expression_same (Var a) (Var b) h = ap Var (name_same a b h)
@@ -62,7 +62,7 @@ expression_same (Binary o x y) (Binary p u v) h =
     let right : y ≡ v = expression_same y v r.1 in cc
 expression_same x y h = cc
 
--- each expression passes the test with itself
+-- Each expression passes the test with itself.
 pub expression_refl : (x : Expression) → expression_eq x x ≡ true
 expression_refl (Number m) = int_eq_equiv.refl m
 expression_refl (Var a) = name_refl a
@@ -139,11 +139,11 @@ mutual
   sequences_refl no_more = refl
   sequences_refl (beside p bs) = and_true (sequence_refl p) (sequences_refl bs)
 
--- the declaration with these parts
+-- The declaration with these parts.
 abbrev declared : ℕ → List ℕ → ℤ → Declaration
 declared line name length = record { line = line; name = name; length = length }
 
--- declarations that pass the test are equal
+-- Declarations that pass the test are equal.
 pub declaration_same : (d e : Declaration) → declaration_eq d e ≡ true → d ≡ e
 declaration_same d e h =
     let p = both _ _ h in let q = both _ _ p.1 in
@@ -152,11 +152,11 @@ declaration_same d e h =
     let size : d.length ≡ e.length = int_same d.length e.length q.1 in
     ap (λ l. declared l d.name d.length) line ∙ ap (λ n. declared e.line n d.length) name ∙ ap (declared e.line e.name) size
 
--- each declaration passes the test with itself
+-- Each declaration passes the test with itself.
 pub declaration_refl : (d : Declaration) → declaration_eq d d ≡ true
 declaration_refl d = and_true (number_refl d.line) (and_true (name_refl d.name) (int_eq_equiv.refl d.length))
 
--- lists of declarations that pass the test are equal
+-- Lists of declarations that pass the test are equal.
 pub declarations_same : (ds es : List Declaration) → declarations_eq ds es ≡ true → ds ≡ es
 declarations_same [] [] h = refl
 declarations_same (d ∷ ds) (e ∷ es) h =
@@ -165,16 +165,16 @@ declarations_same (d ∷ ds) (e ∷ es) h =
     let rest : ds ≡ es = declarations_same ds es p.1 in cc
 declarations_same ds es h = cc
 
--- each list of declarations passes the test with itself
+-- Each list of declarations passes the test with itself.
 pub declarations_refl : (ds : List Declaration) → declarations_eq ds ds ≡ true
 declarations_refl [] = refl
 declarations_refl (d ∷ ds) = and_true (declaration_refl d) (declarations_refl ds)
 
--- the program with these parts
+-- The program with these parts.
 abbrev program : List Declaration → Sequence → ProgramTree
 program arrays body = record { arrays = arrays; body = body }
 
--- programs that pass the test are equal
+-- Programs that pass the test are equal.
 pub program_same : (p q : ProgramTree) → program_eq p q ≡ true → p ≡ q
 program_same p q h =
     let r = both _ _ h in
@@ -182,7 +182,7 @@ program_same p q h =
     let body : p.body ≡ q.body = sequence_same p.body q.body r.1 in
     ap (λ ds. program ds p.body) arrays ∙ ap (program q.arrays) body
 
--- each program passes the test with itself
+-- Each program passes the test with itself.
 pub program_refl : (p : ProgramTree) → program_eq p p ≡ true
 program_refl p = and_true (declarations_refl p.arrays) (sequence_refl p.body)
 
@@ -194,27 +194,27 @@ decided eq same all x y b e = rw e (λ h. same x y h, λ p. subst (λ z. eq x z 
 pub expression_decided : (x y : Expression) (b : Bool) → b ≡ expression_eq x y → IsTrue b ↔ (x ≡ y)
 expression_decided = decided expression_eq expression_same expression_refl
 
--- the same for statements
+-- The same for statements.
 pub statement_decided : (x y : Statement) (b : Bool) → b ≡ statement_eq x y → IsTrue b ↔ (x ≡ y)
 statement_decided = decided statement_eq statement_same statement_refl
 
--- the same for sequences
+-- The same for sequences.
 pub sequence_decided : (x y : Sequence) (b : Bool) → b ≡ sequence_eq x y → IsTrue b ↔ (x ≡ y)
 sequence_decided = decided sequence_eq sequence_same sequence_refl
 
--- the same for branches or phases
+-- The same for branches or phases.
 pub sequences_decided : (x y : Sequences) (b : Bool) → b ≡ sequences_eq x y → IsTrue b ↔ (x ≡ y)
 sequences_decided = decided sequences_eq sequences_same sequences_refl
 
--- the same for declarations
+-- The same for declarations.
 pub declaration_decided : (x y : Declaration) (b : Bool) → b ≡ declaration_eq x y → IsTrue b ↔ (x ≡ y)
 declaration_decided = decided declaration_eq declaration_same declaration_refl
 
--- the same for lists of declarations
+-- The same for lists of declarations.
 pub declarations_decided : (x y : List Declaration) (b : Bool) → b ≡ declarations_eq x y → IsTrue b ↔ (x ≡ y)
 declarations_decided = decided declarations_eq declarations_same declarations_refl
 
--- the same for programs
+-- The same for programs.
 pub program_decided : (x y : ProgramTree) (b : Bool) → b ≡ program_eq x y → IsTrue b ↔ (x ≡ y)
 program_decided = decided program_eq program_same program_refl
 
@@ -227,7 +227,7 @@ symm_by eq same all x y true e = subst (λ z. eq x z ≡ eq z x) (same x y e) re
 symm_by eq same all x y false e =
     e ∙ sym (false_unless (eq y x) (λ h. let k : eq x y ≡ true = subst (λ z. eq z y ≡ true) (same y x h) (all y) in let n = sym k ∙ e in cc))
 
--- such a test, of the views, is symmetric and transitive
+-- Such a test, of the views, is symmetric and transitive.
 pub equal_laws : {K X : Type 0} (view : K → X) (eq : X → X → Bool) → ((x y : X) → eq x y ≡ true → x ≡ y) → ((x : X) → eq x x ≡ true) → IsPartialEquivalence (λ a b. eq (view a) (view b))
 equal_laws view eq same all = record {
   symm = λ x y. symm_by eq same all (view x) (view y) (eq (view x) (view y)) refl;

@@ -65,7 +65,7 @@ few_seats lay p s k zero le = let z = none s.views in omega arith
     none (v ∷ vs) = let r = none vs in omega arith
 few_seats lay p s k (suc n) le = let r = few_seats lay p s k n (omega arith) in let one = k.seats n (omega arith) in let b = total-both (numbered n) (seat_below n) s.views in omega arith
 
--- the harts of a load that are on the way in or out
+-- The harts of a load that are on the way in or out.
 abbrev on_way : Load → ℕ
 on_way l = l.reserves + l.lands + l.leaves
 
@@ -119,7 +119,7 @@ small_word lay p s k x site =
 
 -- ---- no site has as many guests as there are harts, if the word counts those inside
 
--- the same for hart n alone, else 0; and summed over the harts below n
+-- The same for hart n alone, else 0; and summed over the harts below n.
 abbrev way_of : ℕ → ℕ → View → ℕ
 way_of x n v = if v.hart == n then way x v else 0
 

@@ -54,7 +54,7 @@ claim_keeps lay p s k id v x at seat may =
     (turns_to v x (Claiming x) idle refl) (λ z. z) (λ _. omega arith) done.1 (site, may.2, row-new p k.plan k.journal k.table k.legal v.hart x (subst (λ (q : Plan). v.hart < q.harts) (k.views id v at seat).itself.plan seat) site (sym (k.views id v at seat).itself.owner ∙ may.2) done.0, may.0.1)
     (sites_other p k.table v.hart v.marks k.closing (closing_with k.closing x (k.closing x)) (guests lay p k.table s.views) (guests lay p k.table s.views) (closing_lasts k.closing x (k.closing x) (λ z. z)) (λ _ _ z. z) know)))
 
--- a word wants a hart
+-- A word wants a hart.
 pub record Wants (w : ℕ) : Type 0 where
   pub unclosed : w / 2 % 2 ≢ 1
   pub some : want_of w ≢ 0

@@ -53,7 +53,7 @@ take_one (x ∷ xs) (suc i) a e = ap (λ z. x ∷ z) (take_one xs i a e)
 pub take_next : {A : Type 0} (l : List A) (i : ℕ) (a : A) → slice_get l i ≡ Some a → take (i + 1) l ≡ take i l ++ a ∷ []
 take_next l i a e = rw (add-one i) (take_one l i a e)
 
--- a product with one more digit
+-- A product with one more digit.
 one_digit : (a q : ℕ) → a * (4096 * q) ≡ 4096 * (a * q)
 one_digit a q = sym (mul_assoc a 4096 q) ∙ ap (λ (z : ℕ). z * q) (mul_comm a 4096) ∙ mul_assoc 4096 a q
 

@@ -21,7 +21,7 @@ either_none false = refl
 pub part-idle : (x : ℕ) → part Idle x ≡ no_load
 part-idle x = either_none (eqb 0 x)
 
--- the load c becomes c' if one seat's part was a and is b
+-- The load c becomes c' if one seat's part was a and is b.
 pub record Shifts (c c' a b : Load) : Type 0 where
   pub claims : c'.claims + a.claims ≡ c.claims + b.claims
   pub seals : c'.seals + a.seals ≡ c.seals + b.seals

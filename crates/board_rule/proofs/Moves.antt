@@ -134,7 +134,7 @@ yield_appends lay p s k id v amount at seat may adds =
 
 -- ---- unregister
 
--- what a seat knows of a site that it may unregister
+-- What a seat knows of a site that it may unregister.
 pub record MayLeave (p : Plan) (t : TableState) (closing : ℕ → Bool) (f : ℕ → ℕ) (h x : ℕ) : Type 0 where
   pub site : IsSite p x
   pub live : (row t x).stage ≡ Live

@@ -25,7 +25,7 @@ use Rattle.board_rule.proofs.Totals.{total-same}
 use Rattle.board_rule.proofs.Places.{place_at}
 use Rattle.board_rule.proofs.Loads.{load-same}
 
--- the closing bits, with bit b for x
+-- The closing bits, with bit b for x.
 abbrev pub closing_with : (ℕ → Bool) → ℕ → Bool → ℕ → Bool
 closing_with c x b y = if y == x then b else c y
 

@@ -7,7 +7,7 @@ use Rattle.transfer_table.specs.declared.entry.Entry.{Entry}
 use Rattle.transfer_table.specs.declared.entry.Entry.TheVariants.{Register, Request, Enter, Yield, Unregister, Skip}
 use Rattle.board_rule.specs.Encodings.{spelled}
 
--- the number of an entry's kind, as in its word
+-- The number of an entry's kind, as in its word.
 kind : Entry → ℕ
 kind (Register h s) = 1
 kind (Request h s k) = 2
@@ -25,7 +25,7 @@ parts (Yield h s) a b = (omega arith, omega arith, omega arith, omega arith)
 parts (Unregister h s) a b = (omega arith, omega arith, omega arith, omega arith)
 parts (Skip h s) a b = (omega arith, omega arith, omega arith, omega arith)
 
--- the entry of these parts
+-- The entry of these parts.
 built : ℕ → ℕ → ℕ → ℕ → Entry
 built k h c s = cond (eqb k 1) (Register h s) (cond (eqb k 2) (Request h s c) (cond (eqb k 3) (Enter h s) (cond (eqb k 4) (Yield h s) (cond (eqb k 5) (Unregister h s) (Skip h s)))))
 
@@ -38,7 +38,7 @@ rebuilt (Yield h s) = refl
 rebuilt (Unregister h s) = refl
 rebuilt (Skip h s) = refl
 
--- a word spells one entry
+-- A word spells one entry.
 pub spelled_once : (e f : Entry) → hart_of e ≤ 31 → count_of e ≤ 255 → hart_of f ≤ 31 → count_of f ≤ 255 → spelled e ≡ spelled f → e ≡ f
 spelled_once e f a b c d same =
     let p = parts e a b in let q = parts f c d in

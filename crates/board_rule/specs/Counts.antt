@@ -1,4 +1,4 @@
--- Sums over the views of all seats: what they do at a site, and what they have drawn.
+-- Sums over the views of all seats: the pending steps at a site, and the reserved indices.
 use Rattle.std.specs.Prelude.{ℕ, ◌+◌, ◌==◌, if◌then◌else◌, List}
 use Rattle.transfer_table.specs.Plan.{Plan}
 use Rattle.transfer_table.specs.Table.{TableState}
@@ -10,16 +10,16 @@ use Rattle.board_rule.specs.declared.view.Doing.TheVariants.{Idle, Claiming, Cre
 use Rattle.transfer_table.specs.Counts.{one_if}
 use Rattle.board_rule.specs.Sums.{total, draws_in}
 
--- 1 for a view that has drawn the index and hasn't written its entry
+-- 1 for a view that has reserved the index and hasn't written its entry; else 0.
 abbrev pub draws : ℕ → View → ℕ
 draws i v = draws_in v.drawn i
 
--- 1 for the view of the hart
+-- 1 for the view of the hart; else 0.
 abbrev pub numbered : ℕ → View → ℕ
 numbered h v = one_if (v.hart == h)
 
--- what seats do at one site: how many are claiming it, sealing it, reserved to it, landing on it and leaving it, and for how
--- many harts they are crediting it
+-- The pending steps of seats at one site: how many seats are claiming the site, sealing it, reserved to it, landing on it and
+-- leaving it, and for how many harts they are crediting it.
 pub record Load : Type 0 where
   pub claims : ℕ
   pub seals : ℕ
@@ -28,11 +28,11 @@ pub record Load : Type 0 where
   pub leaves : ℕ
   pub credits : ℕ
 
--- no hart at any step
+-- No seat has a pending step at the site.
 abbrev pub no_load : Load
 no_load = record { claims = 0; seals = 0; reserves = 0; lands = 0; leaves = 0; credits = 0 }
 
--- what a seat does at the site where it is busy
+-- The pending step of a seat, as a load of the site where the seat is busy.
 abbrev pub weight : Doing → Load
 weight Idle = no_load
 weight (Claiming x) = record { claims = 1; seals = 0; reserves = 0; lands = 0; leaves = 0; credits = 0 }
@@ -42,7 +42,7 @@ weight (Landing x) = record { claims = 0; seals = 0; reserves = 0; lands = 1; le
 weight (Leaving x) = record { claims = 0; seals = 0; reserves = 0; lands = 0; leaves = 1; credits = 0 }
 weight (Sealing x) = record { claims = 0; seals = 1; reserves = 0; lands = 0; leaves = 0; credits = 0 }
 
--- the site where a seat is busy; 0 for none
+-- The site where a seat is busy; 0 for none.
 abbrev pub busy_at : Doing → ℕ
 busy_at Idle = 0
 busy_at (Claiming x) = x
@@ -52,11 +52,11 @@ busy_at (Landing x) = x
 busy_at (Leaving x) = x
 busy_at (Sealing x) = x
 
--- what a seat does at the site
+-- The load that a seat's pending step puts on the site.
 abbrev pub part : Doing → ℕ → Load
 part d x = if busy_at d == x then weight d else no_load
 
--- what all seats do at the site
+-- The load that the pending steps of all seats put on the site.
 abbrev pub load : ℕ → List View → Load
 load x vs = record {
   claims = total (λ v. (part v.doing x).claims) vs;
@@ -67,7 +67,7 @@ load x vs = record {
   credits = total (λ v. (part v.doing x).credits) vs;
 }
 
--- The guests that a site's word counts: those of the layout that are inside, and the harts that are reserved to the site,
--- landing on it or leaving it.
+-- The guests that a site's word counts: the guests inside, if the layout counts them, and the harts that are reserved to the
+-- site, landing on it or leaving it.
 abbrev pub guests : Layout → Plan → TableState → List View → ℕ → ℕ
 guests lay p t vs x = insiders lay p t x + (load x vs).reserves + (load x vs).lands + (load x vs).leaves

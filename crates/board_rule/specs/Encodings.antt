@@ -6,41 +6,41 @@ use Rattle.transfer_table.specs.declared.entry.Entry.TheVariants.{Register, Requ
 
 -- ---- a site's word
 
--- one wish in it
+-- The unit of the want in a site's word.
 abbrev pub wish_unit : ℕ
 wish_unit = 256
 
--- one hart that it counts: on its way in, or a guest
+-- The unit of the guests in a site's word.
 abbrev pub guest_unit : ℕ
 guest_unit = 65536
 
 -- ---- the journal's words
 
--- one hart, one of a count, and one site in the word of an entry
+-- The unit of the hart in the word of an entry.
 abbrev pub hart_unit : ℕ
 hart_unit = 8
 
--- one of a count
+-- The unit of the count in the word of an entry.
 abbrev pub count_unit : ℕ
 count_unit = 256
 
--- one site
+-- The unit of the site in the word of an entry.
 abbrev pub site_unit : ℕ
 site_unit = 65536
 
--- how many words a board has: one for the board, one for each site, one for each entry
+-- The number of words of a board: one for the board, one for each site, and one for each entry.
 abbrev pub width : Plan → ℕ
 width p = 1 + site_count p + room p
 
--- the position of the word of journal index i
+-- The position of the word of journal index i.
 abbrev pub journal_index : Plan → ℕ → ℕ
 journal_index p i = 1 + site_count p + i
 
--- the word of journal index i
+-- The word of journal index i.
 abbrev pub journal_word : Plan → List ℕ → ℕ → ℕ
 journal_word p ws i = slice_index ws (journal_index p i)
 
--- the word of an entry: its kind, its hart, its count and its site
+-- The word of an entry: its kind, its hart, its count and its site.
 abbrev pub spelled : Entry → ℕ
 spelled (Register h s) = 1 + hart_unit * h + site_unit * s
 spelled (Request h s k) = 2 + hart_unit * h + count_unit * k + site_unit * s

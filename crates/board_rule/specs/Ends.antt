@@ -18,18 +18,19 @@ use Rattle.board_rule.specs.Encodings.{journal_word, spelled}
 use Rattle.board_rule.specs.Sums.{total, ended_as}
 use Rattle.board_rule.specs.Places.{AreAt}
 
--- the words have this journal, each entry at its index
+-- The words encode this journal, each entry at its index.
 pub record Spells (lay : Layout) (p : Plan) (ws : List ℕ) (es : List Entry) : Type 0 where
   pub count : entries_of lay (slice_index ws 0) ≡ length es
   pub few : length es ≤ room p
   pub places : (i : ℕ) (e : Entry) → slice_get es i ≡ Some e
       → (journal_word p ws i ≡ spelled e) × IsEntryOf p e
 
--- all harts but 0 were joined into the view
+-- All harts but hart 0 were joined into the view.
 abbrev pub AllEnded : Plan → View → Type 0
 AllEnded p v = (h : ℕ) → 1 ≤ h → h < p.harts → 1 ≤ total (ended_as h) v.ended
 
--- a legal list, in which hart 0 has the view's entries, and each ended hart its own; what was seen gone is gone
+-- The list is legal, and has the view's entries as hart 0's and the entries of each ended hart as that hart's. A site that the
+-- view has seen gone is gone.
 pub record IsJournal (p : Plan) (v : View) (es : List Entry) : Type 0 where
   pub table : TableState
   pub legal : Reaches p es table

@@ -5,7 +5,7 @@ use Rattle.transfer_table.specs.Plan.{Plan}
 use Rattle.lent_board.specs.declared.seat.HartSeat.{HartSeat}
 use Rattle.word_board.specs.Seats.{AreAll}
 
--- a seat of the board by its number
+-- A seat of the board by its number.
 pub record IsSeatOf (z : TableId) (p : Plan) (h : ℕ) (q : HartSeat) : Type 0 where
   pub board : q.seat.table_id ≡ z
   pub plan : q.seat.me.0.plan ≡ p

@@ -12,7 +12,7 @@ use Rattle.claim_words.specs.declared.seat_view.LookKind.TheVariants as kind
 abbrev pub look : ℕ → LookKind → ℕ → Look
 look row k found = record { row = row; kind = k; found = found }
 
--- the sum of f over a list
+-- The sum of f over a list.
 abbrev pub weigh : {X : Type 0} → (X → ℕ) → List X → ℕ
 weigh f [] = 0
 weigh f (x ∷ xs) = f x + weigh f xs
@@ -25,11 +25,11 @@ is_claim r m x = if (x.0 == r) && (x.1 == m) then 1 else 0
 abbrev pub is_row : ℕ → ℕ → ℕ
 is_row r x = if x == r then 1 else 0
 
--- how often a seat claimed this member, and how often it drew a number past a counter's members
+-- How often a seat claimed this member, and how often it drew a number past a counter's members.
 abbrev pub claims : ℕ → ℕ → SeatView → ℕ
 claims r m v = weigh (is_claim r m) v.claimed
 
--- how often a seat drew a number past a counter's members
+-- How often a seat drew a number past a counter's members.
 abbrev pub pasts : ℕ → SeatView → ℕ
 pasts r v = weigh (is_row r) v.past
 
@@ -41,8 +41,8 @@ once m word count = if nat_lt m word && nat_lt m count then 1 else 0
 abbrev pub past_word : List ℕ → Look → ℕ
 past_word words x = if nat_lt (slice_index words x.row) x.found then 1 else 0
 
--- what a view states by itself: a seat draws from a counter only after it saw a free member, so it draws past the members at
--- most once
+-- What a view states by itself: a seat draws from a counter only after it saw a free member, so it draws past the members at
+-- most once.
 pub record Keeps (counts words : List ℕ) (v : SeatView) : Type 0 where
   pub spent : v.parts ≡ 0 → (v.claimed ≡ []) × (v.past ≡ []) × (v.trying ≡ 0)
   pub few : (r : ℕ) → pasts r v ≤ v.parts
@@ -66,7 +66,7 @@ pub record ClaimsStand (counts : List ℕ) (s : State ℕ SeatView) : Type 0 whe
   pub rows : length s.words ≡ length counts + 1
   pub small : (r : ℕ) → slice_index counts r < 256
 
--- the view of a new seat
+-- The view of a new seat.
 abbrev pub fresh : ℕ → List ℕ → SeatView
 fresh parts counts = record {
   parts = parts;
@@ -77,14 +77,14 @@ fresh parts counts = record {
   looks = [];
 }
 
--- the view after a look, and after a number was drawn
+-- The view after a look, and after a number was drawn.
 abbrev pub looked : SeatView → ℕ → ℕ → SeatView
 looked v r n = record v {
   trying = if nat_lt n (slice_index v.counts r) then suc r else 0;
   looks = v.looks ++ look r kind.Look n ∷ [];
 }
 
--- the view after a number was drawn
+-- The view after a number was drawn.
 abbrev pub drawn : SeatView → ℕ → ℕ → SeatView
 drawn v r n = record v {
   trying = 0;
@@ -93,7 +93,7 @@ drawn v r n = record v {
   past = if nat_lt n (slice_index v.counts r) then v.past else v.past ++ r ∷ [];
 }
 
--- the view after another seat was joined into this one
+-- The view after another seat was joined into this one.
 abbrev pub joined : SeatView → SeatView → SeatView
 joined v w = record {
   parts = v.parts + w.parts;

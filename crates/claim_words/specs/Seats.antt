@@ -9,40 +9,40 @@ use Rattle.claim_words.specs.declared.claimed.Claimed.{Claimed}
 use Rattle.claim_words.specs.declared.claimed.Claimed.TheVariants.{Member, NoneLeft}
 use Rattle.claim_words.specs.Claims.{look, weigh, claims, once, past_word}
 
--- what a seat knows
+-- What a seat knows.
 abbrev pub seat_view : ClaimSeat → SeatView
 seat_view s = s.seat.me.0
 
--- what no claim changes: the seat's table, the members of its counters, and its parts
+-- What no claim changes: the seat's table, the members of its counters, and its parts.
 pub record SeatIdentity : Type 0 where
   pub table : TableId
   pub counts : List ℕ
   pub parts : ℕ
 
--- the identity of a seat
+-- The identity of a seat.
 abbrev pub identity : ClaimSeat → SeatIdentity
 identity s = record { table = s.seat.table_id; counts = (seat_view s).counts; parts = (seat_view s).parts }
 
--- the seat is one of the table
+-- The seat is one of the table.
 abbrev pub IsOf : ClaimTable → SeatIdentity → Type 0
 IsOf t k = (k.table ≡ t.table.shared.table_id) × (k.counts ≡ t.counts.items)
 
--- the seats are of the table
+-- The seats are of the table.
 abbrev pub AreOf : ClaimTable → List SeatIdentity → Type 0
 AreOf t [] = Unit {0}
 AreOf t (k ∷ all) = IsOf t k × AreOf t all
 
--- the number of parts of seats
+-- The number of parts of seats.
 abbrev pub parts_of : List SeatIdentity → ℕ
 parts_of [] = 0
 parts_of (k ∷ all) = k.parts + parts_of all
 
--- these are all seats of the table
+-- These are all seats of the table.
 pub record AreAll (t : ClaimTable) (all : List SeatIdentity) : Type 0 where
   pub of : AreOf t all
   pub whole : parts_of all ≡ 256
 
--- the seat has claimed nothing and read nothing
+-- The seat has claimed nothing and read nothing.
 abbrev pub IsNew : ClaimSeat → Type 0
 IsNew s = ((seat_view s).claimed ≡ []) × ((seat_view s).looks ≡ [])
 
@@ -61,12 +61,12 @@ ClaimGives counts row old (NoneLeft shown) new =
     × ((seat_view new).looks ≡ (seat_view old).looks ++ look row kind.Look n
     ∷ look row kind.Draw shown ∷ [])))
 
--- how often all these seats claimed this member of this counter
+-- How often all these seats claimed this member of this counter.
 abbrev pub claims_of : ℕ → ℕ → List ClaimSeat → ℕ
 claims_of r m [] = 0
 claims_of r m (s ∷ seats) = claims r m (seat_view s) + claims_of r m seats
 
--- how many words all these seats read that are above the counter's word
+-- How many words all these seats read that are above the counter's word.
 abbrev pub reads_past : List ℕ → List ClaimSeat → ℕ
 reads_past words [] = 0
 reads_past words (s ∷ seats) = weigh (past_word words) (seat_view s).looks + reads_past words seats

@@ -7,7 +7,7 @@ use Rattle.clap.specs.Words.{App, Shape, with_subcommand}
 use Rattle.command_words.specs.App.{command_with, program_shape}
 use Rattle.command_words.specs.Form.{harts_alone, made_from}
 
--- the program with the first two commands; and one more command that has only a number of harts
+-- The program with the first two commands; and one more command that has only a number of harts.
 abbrev pub first_app : App
 first_app = record { top = record program_shape { is_leaf = false }; subs = command_with (codes "solo") [] ∷ command_with (codes "make") made_from ∷ [] }
 

@@ -15,7 +15,7 @@ use Rattle.command_words.proofs.Walks.{State, between, waits, open_one, walk_at,
 use Rattle.command_words.proofs.Sound.{NoDashes, end_of, Turns}
 use Rattle.command_words.proofs.Lists.{used_new, none_rows}
 
--- a value that can't be read as an option
+-- A value that can't be read as an option.
 abbrev pub IsPlain : Text → Type 0
 IsPlain value = (long_of value ≡ None) × (short_of value ≡ None)
 

@@ -45,7 +45,7 @@ none_missing (name ∷ more) options e =
     let parts = and_parts (times name options == 1) (list_all (λ name. times name options == 1) more) e in
     rw (given_one (times name options) (is_given name (rows_for options)) (given_rows name options) parts.0, none_missing more options parts.1) refl
 
--- the options that a command without a fault has read
+-- The options that a command without a fault has read.
 pub record ReadsThese (names : List Text) (words : List Text) : Type 0 where
   pub options : List Given
   pub read : options_of words ≡ Some options

@@ -12,7 +12,7 @@ use Rattle.clap.specs.Kinds.{or_else}
 use Rattle.command_words.specs.Form.{Given, times, value_of}
 use Rattle.command_words.proofs.Rules.{option_rule, option_rules, row_for, rows_for}
 
--- the number of further options: 1 or 0
+-- The number of further options: 1 or 0.
 abbrev pub one_if : Bool → ℕ
 one_if true = 1
 one_if false = 0

@@ -66,7 +66,7 @@ pub no_index : (names : List Text) (i : ℕ) → arg_by_index (option_rules name
 no_index [] i = refl
 no_index (first ∷ more) i = no_index more i
 
--- the row of an option that was found
+-- The row of an option that was found.
 abbrev pub row_for : Given → Row
 row_for option = record { id = option.0; values = option.1 ∷ []; count = None; source = Some CommandLine; reading = reading_by (option_rule option.0) }
 

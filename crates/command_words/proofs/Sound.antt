@@ -13,23 +13,23 @@ use Rattle.command_words.proofs.Turns.{leaf, held, at, is_dashes, joined_fault, 
 use Rattle.command_words.proofs.Walks.{State, between, waits, open_one, walk_at, with_last, found_in, waiting_in, AreOnce, IsGood, nil_both, cons_nil, settles, use_new, never_waits, once_more}
 use Rattle.command_words.proofs.Lists.{used_new}
 
--- no word is `--` alone
+-- No word is `--` alone.
 abbrev pub NoDashes : List Text → Type 0
 NoDashes [] = Unit {0}
 NoDashes (word ∷ more) = (is_dashes word ≡ false) × NoDashes more
 
--- the state in which the walk ends
+-- The state in which the walk ends.
 abbrev pub end_of : List Text → State → List Text → Walk
 end_of names state words = fold (walked (option_rules names) []) (walk_at state) words
 
--- the options of the words were read, and the walk found them
+-- The options of the words were read, and the walk found them.
 pub record HasRead (names : List Text) (state : State) (words : List Text) : Type 0 where
   pub options : List Given
   pub read : options_from (waiting_in state) words ≡ Some options
   pub once : AreOnce names (found_in state ++ options)
   pub rows : settled_rows (option_rules names) (end_of names state words).held.pending (end_of names state words).held.rows ≡ rows_for (found_in state ++ options)
 
--- a word leads from one state to another
+-- A word leads from one state to another.
 abbrev pub Turns : List Text → State → Text → State → Type 0
 Turns names state word next = walked (option_rules names) [] (walk_at state) word ≡ walk_at next
 
@@ -53,7 +53,7 @@ walk_parts : (command : Text) (names : List Text) (state next : State) (word : T
 unfolding walk_fault
 walk_parts command names state next word more e = nil_both (turn_fault (leaf command names) [] (walk_at state) word) (walk_fault (leaf command names) [] (walked (option_rules names) [] (walk_at state) word) more) e
 
--- a word that begins with one `-` is no option: it is refused, or read without a flag
+-- A word that begins with one `-` is no option: it is refused, or read without a flag.
 pub data IsDashed (names : List Text) (rows : List Row) (pending : Option (Text × List Text)) (flags : Text) : Type 0 where
   refuses : ((again : Bool) → flags_fault (option_rules names) again (length flags) flags 0 (held rows pending) ≡ UnknownArgument ∷ []) → IsDashed names rows pending flags
   passes : ((again : Bool) → flags_fault (option_rules names) again (length flags) flags 0 (held rows pending) ≡ []) → bundle_met (option_rules names) (length flags) flags 0 plain (held rows pending) ≡ (held rows pending, plain) → IsDashed names rows pending flags
@@ -110,7 +110,7 @@ dashed_walk : (command : Text) (names : List Text) (rows : List Row) (name word 
     → walked (option_rules names) [] (at rows (Some (name, [])) (option name)) word ≡ at rows (Some (name, word ∷ [])) idle
 dashed_walk command names rows name word flags other long short known e = waiting_cases command names rows name word flags other long short known e (dashed names rows (Some (name, [])) word flags short)
 
--- the words after a word, from any state
+-- The words after a word, from any state.
 abbrev Next : Text → List Text → List Text → Type 0
 Next command names more = (state : State) → IsGood names state → walk_fault (leaf command names) [] (walk_at state) more ≡ []
     → settle_fault (option_rules names) false (end_of names state more).held ≡ [] → HasRead names state more

@@ -124,7 +124,7 @@ or_nil : (kinds : Kinds) → or_else kinds [] ≡ kinds
 or_nil [] = refl
 or_nil (k ∷ ks) = refl
 
--- the fault of the words after a word, if it names the command that was found
+-- The fault of the words after a word, if it names the command that was found.
 abbrev behind : List Text → Option Shape → Kinds
 behind rest found =
     or_else (option_map_or (λ (s : Shape). level_fault s [] nothing_held rest false []) found [])

@@ -26,7 +26,7 @@ no_digits bytes i at never = never_true (all_ascii_digits bytes) (λ e. never (d
 pub ten_more : (k : ℕ) → 10 ^ (k + 1) ≡ 10 ^ k * 10
 ten_more k = pow_more 10 k
 
--- a number begins with a digit
+-- A number begins with a digit.
 digit_first : (first : ℕ) (more : Text) → all_ascii_digits (first ∷ more) ≡ true → (first == 45) ≡ false
 digit_first first more e = never_true (first == 45) (λ same. let is : first ≡ 45 = eqb-true first 45 same in let range = digit_at (first ∷ more) 0 (own.to (first ∷ more) e) (omega arith) in omega (arith, is, range.0))
 

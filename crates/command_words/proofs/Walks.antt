@@ -20,7 +20,7 @@ pub nil_both : (a b : Kinds) → or_else a b ≡ [] → (a ≡ []) × (b ≡ [])
 nil_both [] b e = (refl, e)
 nil_both (k ∷ ks) b e = absurd (cons_nil k ks e)
 
--- the state of the walk: the settled options, and one that isn't settled yet or waits for its value
+-- The state of the walk: the settled options, and one that isn't settled yet or waits for its value.
 pub data State : Type 0 where
   between : List Given → Option Given → State
   waits : List Given → Text → State
@@ -45,7 +45,7 @@ abbrev pub waiting_in : State → Option Text
 waiting_in (between found last) = None
 waiting_in (waits found name) = Some name
 
--- the options have names of the command, each at most once
+-- The options have names of the command, each at most once.
 pub record AreOnce (names : List Text) (options : List Given) : Type 0 where
   pub once : (name : Text) → times name options ≤ 1
   pub known : list_all (λ (o : Given). is_known names o.0) options ≡ true

@@ -5,18 +5,18 @@ use Rattle.clap.specs.Simple.{new_rule, new_shape}
 use Rattle.clap.specs.declared.builder.action.ArgAction.TheVariants.{Set}
 use Rattle.command_words.specs.Form.{harts_alone, harts_commands, made_from}
 
--- an option that takes a value, and that the command needs
+-- An option that takes a value, and that the command needs.
 abbrev pub needed : List ℕ → Rule
 needed name = record (new_rule name) { long = Some name; action = Some Set; required = true }
 
--- a command with these options
+-- A command with these options.
 abbrev pub command_with : List ℕ → List (List ℕ) → Shape
 command_with name names = record (new_shape name) {
   rules = map needed names;
   disable_help_flag = true;
 }
 
--- the program without its commands, a command with no option, and the command with three
+-- The program without its commands, a command with no option, and the command with three.
 abbrev pub program_shape : Shape
 program_shape = record (new_shape (codes "lithe_run")) {
   no_binary_name = true;
@@ -25,19 +25,19 @@ program_shape = record (new_shape (codes "lithe_run")) {
   subcommand_required = true;
 }
 
--- the program without its commands
+-- The program without its commands.
 abbrev pub program_app : App
 program_app = record { top = program_shape; subs = [] }
 
--- a command without options
+-- A command without options.
 abbrev pub bare_app : List ℕ → App
 bare_app name = record { top = command_with name []; subs = [] }
 
--- the command `make`
+-- The command `make`.
 abbrev pub make_app : App
 make_app = record { top = command_with (codes "make") made_from; subs = [] }
 
--- the program with its commands
+-- The program with its commands.
 abbrev pub lithe_app : App
 lithe_app = record {
   top = record program_shape { is_leaf = false };

@@ -9,15 +9,15 @@ use Rattle.clap.specs.Lexer.{long_of}
 use Rattle.command_words.specs.declared.command.Command.{Command}
 use Rattle.command_words.specs.declared.command.Command.TheVariants.{Run, Tally, Pipe, Solo, Audit, Make}
 
--- an option with its value
+-- An option with its value.
 abbrev pub Given : Type 0
 Given = List ℕ × List ℕ
 
--- the options with one more
+-- The options with one more.
 abbrev pub with_option : Given → Option (List Given) → Option (List Given)
 with_option option rest = option_map (λ more. option ∷ more) rest
 
--- what an option's word comes to: with its value, or without it
+-- What an option's word comes to: with its value, or without it.
 abbrev pub option_at : Option (List ℕ × Option (List ℕ)) → (Option (List ℕ) → Option (List Given))
     → Option (List Given)
 option_at None rest = None
@@ -32,81 +32,81 @@ options_from (Some name) [] = None
 options_from None (word ∷ more) = option_at (long_of word) (λ waits. options_from waits more)
 options_from (Some name) (word ∷ more) = with_option (name, word) (options_from None more)
 
--- the options of words
+-- The options of words.
 abbrev pub options_of : List (List ℕ) → Option (List Given)
 options_of words = options_from None words
 
--- how many of the options have the name
+-- How many of the options have the name.
 abbrev pub times : List ℕ → List Given → ℕ
 times name [] = 0
 times name (option ∷ more) = if bytes_eq option.0 name then 1 + times name more else times name more
 
--- whether the name is one of these
+-- Whether the name is one of these.
 abbrev pub is_known : List (List ℕ) → List ℕ → Bool
 is_known names name = list_any (λ known. bytes_eq known name) names
 
--- each of these names is an option's, once, and no other is
+-- Each of these names is an option's, once, and no other is.
 abbrev pub are_these : List (List ℕ) → List Given → Bool
 are_these names options =
     list_all (λ name. times name options == 1) names
     && list_all (λ option. is_known names option.0) options
 
--- the value of the option with this name
+-- The value of the option with this name.
 abbrev pub value_of : List ℕ → List Given → Option (List ℕ)
 value_of name options = option_map (λ option. option.1)
     (find (λ option. bytes_eq option.0 name) options)
 
--- the number from least to most that the value is
+-- The number from least to most that the value is.
 abbrev pub number_in : ℕ → ℕ → List ℕ → Option ℕ
 number_in least most value =
     let number = digits_value 10 value in
     if nat_le 1 (length value) && nat_le (length value) 20 && all_ascii_digits value
     && nat_le least number && nat_le number most then Some number else None
 
--- the number of an option
+-- The number of an option.
 abbrev pub number_of : ℕ → ℕ → List ℕ → List Given → Option ℕ
 number_of least most name options = option_and_then (number_in least most) (value_of name options)
 
--- the number of harts
+-- The number of harts.
 abbrev pub harts_given : List Given → Option ℕ
 harts_given options = number_of 1 16 (codes "harts") options
 
--- the options, if they are those with these names
+-- The options, if they are those with these names.
 abbrev pub these : List (List ℕ) → List (List ℕ) → Option (List Given)
 these names words = option_and_then (λ options. if are_these names options then Some options
     else None) (options_of words)
 
--- the options of a command that has a number of harts alone, and those of `make`
+-- The options of a command that has a number of harts alone, and those of `make`.
 abbrev pub harts_alone : List (List ℕ)
 harts_alone = codes "harts" ∷ []
 
--- the options of `make`
+-- The options of `make`.
 abbrev pub made_from : List (List ℕ)
 made_from = codes "seed" ∷ codes "size" ∷ codes "harts" ∷ []
 
--- the command `make` of these options
+-- The command `make` of these options.
 abbrev pub make_of : List Given → Option Command
 make_of options =
     option_and_then (λ seed. option_and_then
     (λ size. option_map (Make seed size) (harts_given options))
     (number_of 1 40 (codes "size") options)) (number_of 0 (2 ^ 64 - 1) (codes "seed") options)
 
--- the commands that have a number of harts alone, and what such a number makes of each
+-- The commands that have a number of harts alone, and what such a number makes of each.
 abbrev pub harts_commands : List (List ℕ × (ℕ → Command))
 harts_commands =
     (codes "run", Run) ∷ (codes "tally", Tally) ∷ (codes "pipe", Pipe) ∷ (codes "audit", Audit) ∷ []
 
--- the one of these with this name
+-- The one of these with this name.
 abbrev pub harts_command : List ℕ → Option (ℕ → Command)
 harts_command name =
     option_map (λ known. known.1) (find (λ known. bytes_eq name known.0) harts_commands)
 
--- the command that the words behind its name make of their number of harts
+-- The command that the words behind its name make of their number of harts.
 abbrev pub with_harts : List (List ℕ) → (ℕ → Command) → Option Command
 with_harts words command =
     option_and_then (λ options. option_map command (harts_given options)) (these harts_alone words)
 
--- the command that the words give, or nothing
+-- The command that the words give, or nothing.
 abbrev pub form_of : List (List ℕ) → Option Command
 form_of [] = None
 form_of (name ∷ words) =

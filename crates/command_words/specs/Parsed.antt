@@ -8,32 +8,32 @@ use Rattle.command_words.specs.Form.{number_in, harts_command}
 use Rattle.command_words.specs.declared.command.Command.{Command}
 use Rattle.command_words.specs.declared.command.Command.TheVariants.{Solo, Make}
 
--- the number of an option that was found
+-- The number of an option that was found.
 abbrev pub number_at : ℕ → ℕ → List ℕ → List Row → Option ℕ
 number_at least most name rows = option_and_then (number_in least most) (first_of name rows)
 
--- the number of harts that was found
+-- The number of harts that was found.
 abbrev pub harts_at : List Row → Option ℕ
 harts_at rows = number_at 1 16 (codes "harts") rows
 
--- the command `make` of the numbers that were found
+-- The command `make` of the numbers that were found.
 abbrev pub make_at : List Row → Option Command
 make_at rows =
     option_and_then (λ seed. option_and_then (λ size. option_map (Make seed size) (harts_at rows))
     (number_at 1 40 (codes "size") rows)) (number_at 0 (2 ^ 64 - 1) (codes "seed") rows)
 
--- the command of this name, with the options that were found
+-- The command of this name, with the options that were found.
 abbrev pub command_at : Text → List Row → Option Command
 command_at name rows =
     if bytes_eq name (codes "solo") then Some Solo else
     if bytes_eq name (codes "make") then make_at rows else
     option_and_then (λ command. option_map command (harts_at rows)) (harts_command name)
 
--- the command of the matches of a subcommand
+-- The command of the matches of a subcommand.
 abbrev pub parsed_from : Option (Text × List Row) → Option Command
 parsed_from None = None
 parsed_from (Some (name, rows)) = command_at name rows
 
--- a word is `--` alone
+-- A word is `--` alone.
 abbrev pub has_dashes : List Text → Bool
 has_dashes words = list_any (λ word. bytes_eq word (codes "--")) words

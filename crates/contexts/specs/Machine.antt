@@ -5,12 +5,12 @@ use Rattle.contexts.specs.declared.machine.Step.TheVariants.{More, Nest, Finishe
 
 -- The work that a machine has left.
 pub record Work : Type 0 where
-  -- what is still to be written: pairs of a cell and a value, in order
+  -- What is still to be written: pairs of a cell and a value, in order.
   pub rest : List (ℕ × ℤ)
-  -- whether a nested piece of work still waits for its writes
+  -- Whether a nested piece of work still waits for its writes.
   pub awaits : Bool
-  -- a number that falls with each step that leaves work, and is 0 exactly if a step returns Finished, so NoMemory comes only
-  -- before
+  -- A number that falls with each step that leaves work, and is 0 exactly if a step returns Finished, so NoMemory comes only
+  -- before.
   pub left : ℕ
 
 -- More: the step may write the first of what was still to be written, the machine waits for nothing, and `left` falls. Nest:

@@ -21,7 +21,7 @@ pub ok_map : {X E : Type 0} {P Q : X → Type 0} (r : Result X E) → ((x : X) �
 ok_map (Ok x) f h = f x h
 ok_map (Err e) f h = h
 
--- the log of an own end
+-- The log of an own end.
 abbrev pub home_log_of : HomeEnd → Log
 home_log_of h = worker_view h.worker
 
@@ -127,7 +127,7 @@ hart_row d homes h l few =
 pub row_at-map : {X Y : Type 0} (f : X → Y) (homes : List (List X)) (d : X) (r : ℕ) → row_at (f d) (map (map f) homes) r ≡ f (row_at d homes r)
 row_at-map f homes d r = ap (λ l. get_or l (r % 3) (f d)) (get_or-map_same (map f) homes (r / 3) []) ∙ get_or-map_same f (get_or homes (r / 3) []) (r % 3) d
 
--- the element of a list at an index
+-- The element of a list at an index.
 pub pick : {X : Type 0} (xs : List X) (i : ℕ) → i < length xs → X
 pick [] i there = absurd (omega (arith, there))
 pick (x ∷ xs) i there = x

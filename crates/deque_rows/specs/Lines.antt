@@ -1,4 +1,4 @@
--- The rows of all harts, as the steps of making and settling them see it.
+-- The deques of all harts during the steps that make and settle them.
 use Rattle.std.specs.Prelude.{◌≡◌, ℕ, ◌-◌, ◌<◌, ◌*◌, ◌/◌, ◌%◌, true, false, List, [], length, replicate, slice_index_or, slice_set}
 use Rattle.crossbeam_deque.specs.Handles.{view, stealer_deque}
 use Rattle.deque_rows.specs.declared.account.Log.{Log}
@@ -7,19 +7,19 @@ use Rattle.deque_rows.specs.declared.hart.HartRows.{HartRows}
 use Rattle.deque_rows.specs.Account.{blank}
 use Rattle.deque_rows.specs.Rows.{RowName, home_logs, bares, rooms, row_at}
 
--- the log of a stealing end
+-- The log of a stealing end.
 abbrev pub end_log : StealingEnd → Log
 end_log s = view s.pass
 
--- the name of a stealing end's deque
+-- The name of a stealing end's deque.
 abbrev pub end_name : StealingEnd → RowName
 end_name s = stealer_deque s.stealer
 
--- the r-th of all rows is x, and the others stay
+-- The lists with x for the r-th of all deques. The other deques' values are unchanged.
 abbrev pub put : {X : Type 0} → List (List X) → ℕ → X → List (List X)
 put homes r x = slice_set homes (r / 3) (slice_set (slice_index_or homes (r / 3) []) (r % 3) x)
 
--- all that a hart has besides its own ends' logs and names
+-- What a hart has besides its own ends' logs and names.
 pub record Standing : Type 0 where
   pub hart : ℕ
   pub harts : ℕ
@@ -27,7 +27,7 @@ pub record Standing : Type 0 where
   pub bares : List ℕ
   pub rooms : List ℕ
 
--- all that a hart has besides its own ends' logs and names
+-- What this hart has besides its own ends' logs and names.
 abbrev pub standing : HartRows → Standing
 standing r = record {
   hart = r.hart;
@@ -37,11 +37,11 @@ standing r = record {
   rooms = rooms r;
 }
 
--- a log with one part fewer
+-- The log with one part fewer.
 abbrev pub less : Log → Log
 less v = record v { parts = v.parts - 1 }
 
--- the rows of a hart before it has any stealing end, among so many harts
+-- The deques of a hart that has no stealing end, among so many harts.
 abbrev pub IsHome : ℕ → ℕ → HartRows → Type 0
 IsHome harts hart r = (home_logs r ≡ replicate 3 (blank 64 true))
     × (standing r ≡ record {
@@ -52,13 +52,13 @@ IsHome harts hart r = (home_logs r ≡ replicate 3 (blank 64 true))
       rooms = rooms r;
     })
 
--- these are further stealing ends of all rows, in order
+-- These are new stealing ends of all deques, in order.
 abbrev pub IsLine : List (List RowName) → List StealingEnd → Type 0
 IsLine names ends = (r : ℕ) (d : StealingEnd) (n : RowName) → r < length ends
     → (end_log (slice_index_or ends r d) ≡ blank 1 false)
     × (end_name (slice_index_or ends r d) ≡ row_at n names r)
 
--- the rows of a hart, when the first harts, so many, have their stealing ends
+-- The deques of a hart while the stealing ends are made: the harts below `first` have their stealing ends.
 pub record IsAt (harts first : ℕ) (names : List (List RowName)) (hart : ℕ)
     (r : HartRows) : Type 0 where
   pub place : r.hart ≡ hart
@@ -66,6 +66,6 @@ pub record IsAt (harts first : ℕ) (names : List (List RowName)) (hart : ℕ)
   pub reaches : hart < first → r.harts ≡ harts
   pub line : hart < first → IsLine names r.ends.items
 
--- a log with so many parts, and what its stealing ends stole
+-- The log with so many parts, and with these stolen indices.
 abbrev pub gathered : Log → ℕ → List ℕ → Log
 gathered v parts stolen = record v { parts = parts; stolen = stolen }

@@ -34,7 +34,7 @@ true_le a b h = grind (arith, nat_tests)
 le_true : (a b : ℕ) → a ≤ b → nat_le a b ≡ true
 le_true a b h = grind (arith, nat_tests)
 
--- the limits on the number of sites
+-- The limits on the number of sites.
 abbrev are_few : ProgramTree → ℕ → Bool
 are_few p harts = nat_le (sites_in p.body) 4095 && nat_le (room_for (sites_in p.body) harts) 65535
 

@@ -11,7 +11,7 @@ use Rattle.transfer_table.specs.Plan.{bad_parent}
 use Rattle.disjoint_check.specs.declared.unroll.Site.{Site}
 use Rattle.disjoint_check.specs.Inside.Unrolled.{Rows, parents_in, last_site, parts, row, repeat, with_statement, with_sequence, with_branches, with_phases}
 
--- unrolling adds so many sites, with these parents
+-- Unrolling adds so many sites, with these parents.
 record Adds (f : Rows → Rows) (b : ℕ → List ℕ) (s : ℕ) : Type 0 where
   size : (rows : Rows) → length (f rows) ≡ length rows + s
   list : (rows : Rows) → length rows + s ≤ 65535 → parents_in (f rows) ≡ parents_in rows ++ b (length rows + 1)
@@ -146,7 +146,7 @@ plan_length program = (sequence_adds program.body 0).size [] ∙ same (sites_in 
     same : (n : ℕ) → 0 + n ≡ n
     same n = omega arith
 
--- each parent is below its site
+-- Each parent is below its site.
 abbrev IsGood : Parents → Type 0
 IsGood parents = (around next : ℕ) → around < next → bad_parent (parents around next) next ≡ None
 

@@ -11,7 +11,7 @@ use Rattle.disjoint_check.specs.declared.unroll.Site.{Site}
 use Rattle.disjoint_check.specs.Shapes.{Shape, turns_of_shapes, statement_shapes, sequence_shapes, branches_shapes, phases_shapes, shapes_of}
 use Rattle.disjoint_check.specs.Inside.Unrolled.{Rows, shape, shapes_in, last_site, parts, row, repeat, with_statement, with_sequence, with_branches, with_phases}
 
--- unrolling adds sites of these shapes
+-- Unrolling adds sites of these shapes.
 abbrev Shows : (Rows → Rows) → List Shape → Type 0
 Shows f shapes = (rows : Rows) → shapes_in (f rows) ≡ shapes_in rows ++ shapes
 

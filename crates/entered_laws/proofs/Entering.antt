@@ -39,7 +39,7 @@ empty : (xs : List Bool) → length xs ≡ 0 → xs ≡ []
 empty [] none = refl
 empty (x ∷ xs) none = absurd (omega (arith, none))
 
--- a list of so many `true`
+-- A list of so many `true`.
 abbrev trues : ℕ → List Bool
 trues n = replicate n true
 

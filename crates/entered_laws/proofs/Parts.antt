@@ -11,7 +11,7 @@ use Rattle.array_meaning.proofs.PlanLemmas as plans
 use Rattle.array_meaning.proofs.NestingLemmas.{stay_inside_parts}
 use Rattle.entered_laws.specs.Meant.{HasPartFrom, PartsAreSpans, ProgramsAreParts, EnteredIsComplete, EverySiteHasAFlag}
 
--- an index behind a list
+-- An index behind a list.
 at_right : (xs ys : List ℕ) (i : ℕ) → slice_index (xs ++ ys) (length xs + i) ≡ slice_index ys i
 at_right [] ys i = let z : 0 + i ≡ i = omega arith in ap (slice_index ys) z
 at_right (x ∷ xs) ys i = let z : suc (length xs) + i ≡ suc (length xs + i) = omega arith in ap (slice_index (x ∷ (xs ++ ys))) z ∙ at_right xs ys i

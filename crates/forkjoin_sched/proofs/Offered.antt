@@ -41,7 +41,7 @@ run_done [] h = refl
 run_done (Begin job ∷ works) h = absurd (let e = h.0 in omega (arith, e))
 run_done (Ready context ∷ works) h = absurd h
 
--- of n jobs, those from index k on are offered
+-- Of n jobs, those from index k on are offered.
 pub record HasOffered (site level n k : ℕ) (pool : PoolParts) (rows : HartRows) (places : List ℕ) (pool' : PoolParts) (rows' : HartRows) : Type 0 where
   pub below : k ≤ n
   pub falling : IsFalling n k places

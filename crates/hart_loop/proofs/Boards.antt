@@ -9,12 +9,12 @@ use Rattle.hart_port.specs.Ledger.{no_site}
 use Rattle.hart_loop.specs.Harts.{StartsIn, IsAt, IsSameHart, AllStart, AreSame, AreBack}
 use Rattle.hart_loop.proofs.Crews.{zip_map, all_of_map}
 
--- hart h of an unused board
+-- Hart h of an unused board.
 pub record IsNewHart (name : List ℕ) (p : Plan) (h : ℕ) (v : PortView) : Type 0 where
   pub at : IsAt name p h v
   pub starts : StartsIn p v
 
--- the view of such a hart
+-- The view of such a hart.
 abbrev pub fresh : List ℕ → Plan → ℕ → PortView
 fresh name p h = record {
   plan = p;
@@ -45,7 +45,7 @@ new_hart name p h v is = record {
 }
 
 module _ {Q : Type 0} (seen : Q → PortView) where
-  -- the hart at index h is hart h
+  -- The hart at index h is hart h.
   abbrev pub AreNew : List ℕ → Plan → List Q → Type 0
   AreNew name p qs = (h : ℕ) (d : Q) → h < length qs → IsNewHart name p h (seen (get_or qs h d))
 

@@ -28,7 +28,7 @@ set_tail : (xs : List Bool) (s : ℕ) (b : Bool) → 1 ≤ s → slice_set (fals
 set_tail xs zero b low = absurd (omega arith)
 set_tail xs (suc i) b low = let same : suc i - 1 ≡ i = omega arith in let P : ℕ → Type 0 = λ j. false ∷ set xs i b ≡ false ∷ set xs j b in subst P (sym same) refl
 
--- the set of homes, if the site's row is this one
+-- The set of homes, if the site's row is this one.
 set_row : (rows : List Row) (h s : ℕ) (r : Row) (b : Bool) → 1 ≤ s → is_home_of h r ≡ b → false ∷ map (is_home_of h) (set rows (s - 1) r) ≡ slice_set (false ∷ map (is_home_of h) rows) s b
 set_row rows h s r b low is = ap (λ (l : List Bool). false ∷ l) (map-set (is_home_of h) rows (s - 1) r ∙ ap (set (map (is_home_of h) rows) (s - 1)) is) ∙ sym (set_tail (map (is_home_of h) rows) s b low)
 

@@ -22,7 +22,7 @@ small (a ∷ b ∷ c ∷ []) f few = let x : a ≤ 4095 = f 0 (omega arith) in l
 small (a ∷ b ∷ c ∷ d ∷ []) f few = let x : a ≤ 4095 = f 0 (omega arith) in let y : b ≤ 4095 = f 1 (omega arith) in let z : c ≤ 4095 = f 2 (omega arith) in let w : d ≤ 4095 = f 3 (omega arith) in omega arith
 small (a ∷ b ∷ c ∷ d ∷ e ∷ os) f few = absurd (omega arith)
 
--- the digits of the first four owners from a hart on
+-- The digits of the first four owners from a hart on.
 pub digits_small : (l : LedgerState) → IsLedger l → (n : ℕ) → owner_digits (drop n (take 4 l.state.owners)) < 2 ^ 48
 digits_small l is n = let fits = legal_position l.plan is.plan l.entries l.state is.reached in let same = fits.owners in
     let first : List ℕ = take 4 l.state.owners in

@@ -3,16 +3,16 @@ use Rattle.std.specs.Prelude.{◌≡◌, ℕ, ◌<◌, ◌-◌, ◌^◌, ◌⊎�
 use Rattle.hart_port.specs.declared.port.Entered.{Entered}
 use Rattle.hart_port.specs.declared.port.Entered.TheVariants.{Inside, NotWanted, Moved}
 
--- a count has risen, or stands at its last value
+-- The count has risen, or stays at its last value.
 abbrev pub Rose : ℕ → ℕ → Type 0
 Rose before after = (before < after) ⊎ ((before ≡ 2 ^ 64 - 1) × (after ≡ before))
 
--- of a call that may be refused: its count of refusals rose if it was refused, and is unchanged otherwise
+-- The count of refusals rose if the call was refused, and is unchanged otherwise.
 abbrev pub RoseIfErr : {A E : Type 0} → Result A E → ℕ → ℕ → Type 0
 RoseIfErr (Ok done) before after = after ≡ before
 RoseIfErr (Err why) before after = Rose before after
 
--- likewise of a try to enter, which is refused unless the hart is inside
+-- The count of refusals rose unless the hart is inside: any other result of a try to enter is a refusal.
 abbrev pub RoseUnlessInside : Entered → ℕ → ℕ → Type 0
 RoseUnlessInside Inside before after = after ≡ before
 RoseUnlessInside (NotWanted shown) before after = Rose before after

@@ -6,41 +6,41 @@ use Rattle.transfer_table.specs.Journal.{Reaches}
 use Rattle.transfer_table.specs.declared.entry.Entry.{Entry}
 use Rattle.transfer_table.specs.declared.entry.NotAdmitted.{NotAdmitted}
 
--- what contracts see of a ledger
+-- What contracts see of a ledger.
 pub record LedgerState : Type 0 where
   pub plan : Plan
   pub state : TableState
-  -- the entries that were admitted, in order
+  -- The entries that were admitted, in order.
   pub entries : List Entry
-  -- the sites that were marked as closing, a flag for the base and for each site
+  -- The sites that were marked as closing, a flag for the base and for each site.
   pub closing : List Bool
 
--- the invariant of a ledger: the state is the replay of the entries, none of which is refused, and each site has its flag
+-- The invariant of a ledger: the state is the replay of the entries, no entry is refused, and each site has its flag.
 pub record IsLedger (l : LedgerState) : Type 0 where
   pub plan : IsPlan l.plan
   pub reached : Reaches l.plan l.entries l.state
   pub closing : length l.closing ≡ site_count l.plan + 1
 
--- a ledger with room for all entries that its plan allows
+-- The ledger has room for all entries that its plan allows.
 pub record IsRoomy (l : LedgerState) (capacity : ℕ) : Type 0 where
   pub ledger : IsLedger l
   pub enough : room l.plan ≤ capacity
 
--- no site is in the set
+-- The set without any site.
 abbrev pub no_site : Plan → List Bool
 no_site p = replicate (site_count p + 1) false
 
--- the ledger of a plan before any entry
+-- The ledger of a plan before any entry.
 abbrev pub first_ledger : Plan → LedgerState
 first_ledger p = record { plan = p; state = first_state p; entries = []; closing = no_site p }
 
--- Of an entry: the table admits it and it is appended, or the table refuses it and nothing has changed.
+-- The table admits the entry and the ledger appends the entry, or the table refuses the entry and the ledger is unchanged.
 abbrev pub Admits : LedgerState → Entry → Result (Unit {0}) NotAdmitted → LedgerState → Type 0
 Admits l e (Ok done) after =
     (admit_of l.plan l.state e ≡ Ok after.state)
     × (after ≡ record l { state = after.state; entries = l.entries ++ e ∷ [] })
 Admits l e (Err why) after = (admit_of l.plan l.state e ≡ Err why) × (after ≡ l)
 
--- the ledger after an entry that the table admits
+-- The ledger after an entry that the table admits.
 abbrev pub with_entry : LedgerState → Entry → LedgerState
 with_entry l e = record l { state = effect_of l.plan l.state e; entries = l.entries ++ e ∷ [] }

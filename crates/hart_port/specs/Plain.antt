@@ -8,15 +8,15 @@ use Rattle.hart_port.specs.PortView.{PortView, homes_of, is_in}
 use Rattle.hart_port.specs.Words.{site_word}
 use Rattle.hart_port.specs.Ledger.{LedgerState, IsLedger, no_site}
 
--- what contracts see of the port: the view, the state that its journal leads to, the sites that it ever closed, and how often
--- it was refused
+-- What contracts see of the port: the view, the state that its journal leads to, the sites that the port ever closed, and the
+-- number of refusals.
 pub record Plain : Type 0 where
   pub view : PortView
   pub state : TableState
   pub closing : List Bool
   pub refused : ℕ
 
--- the view of the plan's first hart before it made a transfer
+-- The view of the plan's first hart before the first transfer.
 abbrev pub first_view : Plan → PortView
 first_view p = record {
   plan = p;
@@ -31,7 +31,7 @@ first_view p = record {
   table = [];
 }
 
--- the view of the only hart of the ledger
+-- The view of the only hart of the ledger.
 abbrev pub view_of : LedgerState → List Bool → List Bool → List Bool → PortView
 view_of l closed empty gone = record {
   plan = l.plan;
@@ -46,16 +46,16 @@ view_of l closed empty gone = record {
   table = [];
 }
 
--- the word that the port shows of a site: it is closing if it was ever closed
+-- The word that the port shows of a site. The word has the closing bit if the port ever closed the site.
 abbrev pub shown_word : Plain → ℕ → ℕ
 shown_word p s = site_word (row p.state s) (is_in p.closing s)
 
--- the port's entries lead to its state, so they are legal
+-- The port's entries lead to its state, so the entries are legal.
 abbrev pub IsReached : Plain → Type 0
 IsReached p = Reaches p.view.plan p.view.mine p.state
 
--- the port's invariant: its ledger keeps its own and has one hart, each set has its flags, and a site that was seen gone is
--- gone
+-- The port's invariant: the ledger's invariant holds, the plan has one hart, each set has its flags, and a site that was seen
+-- gone is gone.
 pub record IsPlain (l : LedgerState) (closed empty gone : List Bool) : Type 0 where
   pub ledger : IsLedger l
   pub one : l.plan.harts ≡ 1

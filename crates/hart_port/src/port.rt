@@ -53,16 +53,16 @@ pub trait Port {
     /// one owner; for lock-protected state they state nothing.
     ghost register_gives: { Self → ℕ → Result (Unit {0}) Taken → Self → Type 0 };
 
-    /// The same of a skip.
+    /// The relation of `register_gives` for a skip.
     ghost skip_gives: { Self → ℕ → Result (Unit {0}) Taken → Self → Type 0 };
 
-    /// The same of a try to enter.
+    /// The relation of `register_gives` for a try to enter.
     ghost enter_gives: { Self → ℕ → Entered → Self → Type 0 };
 
-    /// The same of a look whether a site is gone.
+    /// The relation of `register_gives` for a check that a site is gone.
     ghost gone_gives: { Self → ℕ → Bool → Self → Type 0 };
 
-    /// The same of a look whether the owner is empty.
+    /// The relation of `register_gives` for a check that the owner is empty.
     ghost empty_gives: { Self → Seen → Self → Type 0 };
 
     /// The hart's number.

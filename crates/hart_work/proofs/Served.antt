@@ -16,7 +16,7 @@ at_back v w back R r = subst (λ p. R p w.owner) (sym back.plan) (subst (R v.pla
 pub back_at : (v w : PortView) → IsBack v w → (R : Plan → ℕ → Type 0) → R w.plan w.owner → R v.plan v.owner
 back_at v w back R r = subst (λ p. R p v.owner) back.plan (subst (R w.plan) back.owner r)
 
--- the entries of a hart that has registered a site
+-- The entries of a hart that has registered a site.
 abbrev pub begun : PortView → ℕ → List Entry
 begun h s = h.mine ++ Register h.hart s ∷ []
 

@@ -10,7 +10,7 @@ module _ {T P Q : Type 0} (S : T → P → Type 0) (R : T → Q → Type 0) wher
   first_left [] p rest z = absurd z
   first_left (w ∷ ws) p rest z = (w, z.0)
 
-  -- of whatever tasks these are the outputs, the own outputs so far and those of what is left are their own outputs
+  -- Of whatever tasks these are the outputs, the own outputs so far and those of what is left are their own outputs.
   abbrev pub Left : List P → List P → List Q → Type 0
   Left all rest own =
       (tasks : List T) → AllZip S tasks all
@@ -44,7 +44,7 @@ module _ {T P Q : Type 0} (S : T → P → Type 0) (R : T → Q → Type 0) wher
   none_left [] tasks own z h = subst (λ (qs : List Q). AllZip R tasks qs) (append-nil own) (h [] tt)
   none_left (w ∷ ws) tasks own z h = absurd z
 
-  -- where an output is left, it is that of a task that was held
+  -- Where an output is left, it is that of a task that was held.
   pub next_held : (all old rest : List P) (own : List Q) (p : P) → old ≡ p ∷ rest → Left all old own → (tasks : List T) → AllZip S tasks all → (task : T) × S task p
   next_held all old rest own p eo l tasks z =
       let k = l tasks z in first_left k.0 p rest (subst (λ (ps : List P). AllZip S k.0 ps) eo k.1)
@@ -58,7 +58,7 @@ none_of [] n z e = refl
 none_of (x ∷ xs) n z e = absurd (omega arith)
 
 module _ {T V : Type 0} (f : T → V) where
-  -- the same of tasks and of those that hold them
+  -- The same of tasks and of those that hold them.
   pub zip_map : {P : Type 0} (S : V → P → Type 0) (tasks : List T) (outputs : List P) → AllZip S (map f tasks) outputs → AllZip (λ task output. S (f task) output) tasks outputs
   zip_map S [] [] z = tt
   zip_map S [] (p ∷ ps) z = absurd z
@@ -72,7 +72,7 @@ module _ {T V : Type 0} (f : T → V) where
 
   module _ {P Q E D : Type 0} (S : V → P → Type 0) (F : V → E → Type 0) (R : T → Q → Type 0) (G : T → D → Type 0)
       (alone : (task : T) (p : P) → S (f task) p → (q : Q) × R task q) where
-    -- the first failure of tasks that hold is that of the tasks that are held
+    -- The first failure of tasks that hold is that of the tasks that are held.
     pub first_held : (tasks : List T) (before : List V) (v : V) (after : List V) (outputs : List P) (error : E) (own : D)
         → ((task : T) → F (f task) error → G task own)
         → map f tasks ≡ before ++ v ∷ after → AllZip S before outputs → F v error → FirstFailure R G tasks own

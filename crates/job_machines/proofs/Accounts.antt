@@ -45,7 +45,7 @@ advances p start es es' arrays first meant ws ws' store store' next next' t m x 
       outside = kept_joins p start es es' first (length meant) t m first (length meant) a.outside outside le end (omega (arith, was, low)) (omega (arith, was, high, left, all));
     }
 
--- a step touches only what is left
+-- A step touches only what is left.
 record Touches (p : Plan) (es es' : List Entry) (next : ℕ) (ws : List WorkAt) : Type 0 where
   first : ℕ
   count : ℕ

@@ -17,7 +17,7 @@ use Rattle.job_machines.proofs.Counts.{work_length}
 use Rattle.job_machines.proofs.PassedJobs.{jobs_enter_the_construct}
 use Rattle.job_machines.specs.Constructs.{IsOverJob, IsOverPhase, ConstructsAreOver}
 
--- the site of each number has ended as the value beside it has it
+-- The site of each number has ended as the value beside it has it.
 abbrev OverEach : Plan → List Entry → List ℕ → List Bool → Type 0
 OverEach p es [] [] = Unit {0}
 OverEach p es [] (m ∷ ms) = ⊥

@@ -157,7 +157,7 @@ handing m w construct = record {
   store = m.store.cells;
 }
 
--- the machine hands out the next construct
+-- The machine hands out the next construct.
 record IsHanded (m : Progress) (w : WorkAt) (nested : NestedTree) : Type 0 where
   construct : Statement
   next : construct_of w.work ≡ Some construct

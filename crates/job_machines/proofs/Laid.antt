@@ -32,7 +32,7 @@ cut (suc n) j f (suc N) R e =
     let b : N - n ≡ suc N - suc n = omega arith in
     (omega (arith, le), λ _. head, more.2 ∙ ap (λ x. numbers_from x (N - n)) a ∙ ap (numbers_from (f + suc n)) b)
 
--- jobs with consecutive sites, job after job
+-- Jobs with consecutive sites, job after job.
 abbrev AreLaid : ℕ → ℕ → List JobTree → Type 0
 AreLaid f N [] = Unit {0}
 AreLaid f N (job ∷ more) = (sites_of job.work ≤ N) × (0 < sites_of job.work → job.first ≡ f) × AreLaid (f + sites_of job.work) (N - sites_of job.work) more

@@ -83,7 +83,7 @@ all_phases (beside first rest) =
     let last : 1 + count_of rest ≡ suc (count_of rest) = omega arith in
     ap (sites_before (beside first rest)) last ∙ ap (λ n. sites_in first + n) (all_phases rest)
 
--- the numbers of the phases from this one on
+-- The numbers of the phases from this one on.
 phases_range : (nested : NestedTree) (stores : ℕ → Store) (line : ℕ) (var : List ℕ) (low high members : ℤ) (phases : Sequences) (k c : ℕ) →
     0 < unsigned_abs members → k + c ≡ count_of phases →
     sites_of_phases (record nested { construct = Team line var low high members phases }) stores k c

@@ -16,7 +16,7 @@ use Rattle.job_machines.proofs.Closing.{constructs_open, children_have_ended, co
 
 -- ---- the first jobs
 
--- a job and its index
+-- A job and its index.
 record IsAt (jobs : List JobTree) (job : JobTree) : Type 0 where
   place : ℕ
   found : slice_get jobs place ≡ Some job
@@ -31,7 +31,7 @@ member_at [] job is = absurd is
 member_at (first ∷ more) job (inl same) = record { place = 0; found = ap (λ (j : JobTree). Some j) same }
 member_at (first ∷ more) job (inr is) = (let it = member_at more job is in record { place = suc it.place; found = it.found })
 
--- a job of the list at a lower index
+-- A job of the list at a lower index.
 record IsEarlier (jobs : List JobTree) (k : ℕ) (job : JobTree) : Type 0 where
   at : IsAt jobs job
   low : at.place < k
@@ -86,7 +86,7 @@ phase_numbers nested phase k job e = job_parts nested phase (store_before nested
 
 -- ---- the jobs done up to an index
 
--- a job of an earlier phase
+-- A job of an earlier phase.
 record IsBefore (nested : NestedTree) (phase : ℕ) (job : JobTree) : Type 0 where
   its : ℕ
   low : its < phase

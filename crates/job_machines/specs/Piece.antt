@@ -28,7 +28,7 @@ IsAhead p es next (w ∷ more) =
 -- whether the machine enters it.
 pub record IsAccounted (p : Plan) (start es : List Entry) (arrays : Arrays) (first : ℕ)
     (meant : List Bool) (rest : List WorkAt) (store : Store) (next : ℕ) : Type 0 where
-  -- the flags of the sites that it passed
+  -- The flags of the sites that it passed.
   pub passed : List Bool
   pub place : first + length passed ≡ next
   pub whole : passed ++ rest_entered arrays rest store ≡ meant

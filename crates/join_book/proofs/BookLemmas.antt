@@ -47,7 +47,7 @@ at_replicate zero i x y h = cc
 at_replicate (suc n) zero x y h = cc
 at_replicate (suc n) (suc i) x y h = at_replicate n i x y h
 
--- what `get` of a slice found
+-- What `get` of a slice found.
 pub got : {A : Type 0} → (xs known : List A) (i place : ℕ) (x : A) → true ≡ nat_lt i (length xs) → x ≡ get_or xs i x → xs ≡ known → i ≡ place →
     slice_get known place ≡ Some x
 got xs known i place x inside is e f =
@@ -55,7 +55,7 @@ got xs known i place x inside is e f =
 
 -- ---- slots
 
--- the jobs of a group, as models of the values in memory
+-- The jobs of a group, as models of the values in memory.
 job_model : (jobs : List JobParts) (i : ℕ) (job : JobParts) → slice_get jobs i ≡ Some job → slice_get (map job_of jobs) i ≡ Some (job_of job)
 job_model jobs i job at = slice_get-map job_of jobs i ∙ ap (option_map job_of) at
 
@@ -69,11 +69,11 @@ group_place jobs group i job at = group.places i (job_of job) (job_model jobs i 
 pub group_some : (jobs : List JobParts) → IsGroup (map job_of jobs) → 0 < length jobs
 group_some jobs group = let some_job = group.some in let same = length-map jobs job_of in omega arith
 
--- the model of a book
+-- The model of a book.
 abbrev pub book_model : List JobParts → List Place → BookParts
 book_model jobs places = record { jobs = jobs; places = map mark_of places }
 
--- each job names its index
+-- Each job names its index.
 abbrev pub NamePlaces : List JobParts → Type 0
 NamePlaces jobs = (i : ℕ) (job : JobParts) → slice_get jobs i ≡ Some job → job.place ≡ i
 
@@ -219,7 +219,7 @@ marked_same jobs places book i k p e at =
 
 -- ---- merging
 
--- all of the lists in sequence
+-- All of the lists in sequence.
 abbrev joined : List (List Write) → List Write
 joined [] = []
 joined (piece ∷ more) = piece ++ joined more
@@ -240,7 +240,7 @@ piece_below job fit =
     = rw (names_in_of job.arrays) (known arrays (names_of job.arrays) (names_around job.vars) job.work job.vars fit.known_names) in
     rw fit.cells (piece_inside arrays (sized job fit).each (steps_of job.work job.vars) job.store visited fit.indices)
 
--- the pieces that are still to be merged, from an index on
+-- The pieces that are still to be merged, from an index on.
 abbrev pub pieces_from : ℕ → List JobParts → List Place → List (List Write)
 pieces_from i jobs places = filled_pieces (drop i jobs) (map mark_of (drop i places))
 
@@ -291,7 +291,7 @@ filled_below jobs places i written job n kept own at cells =
     let P : ℕ → Type 0 = λ m. All (λ w. w.0 < m) written.pairs in
     subst P cells (rw (kept.filled i job written own at) all)
 
--- the state of a store while a book is merged into it, with the slots before this one done
+-- The state of a store while a book is merged into it, with the slots before this one done.
 pub record IsMerging (book : BookParts) (places : List Place) (i : ℕ) (store first : Trace) : Type 0 where
   pub cells : length store.cells ≡ length first.cells
   pub marks : length store.marks ≡ length store.cells

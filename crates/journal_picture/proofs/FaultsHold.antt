@@ -241,7 +241,7 @@ fails_unregister p t h s w fits is = either (common p t (Unregister h s) _ w is)
           subst (λ (j : ℕ). (slice_index_or t.rows j blank).stage ≢ Gone) at one.4,
         )
 
--- where the table refuses an entry, the condition that it names fails
+-- Where the table refuses an entry, the condition that it names fails.
 fails : (p : Plan) (t : TableState) (e : Entry) (w : NotAdmitted) → Fits p t → admit_of p t e ≡ Err w → Fails p t e w
 fails p t e w fits is = by e (refused_by (first_cause (refusals_of p t e)) (effect_of p t e) w is)
   where

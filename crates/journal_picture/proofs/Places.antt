@@ -69,7 +69,7 @@ later_hasnt j h s first last from = grind (arith, nat_tests)
 earlier_hasnt : (j h s first k : ℕ) → k < j → has_place j (stay_of h s first (Some k)) ≡ false
 earlier_hasnt j h s first k to = grind (arith, nat_tests)
 
--- no later stay has the place
+-- No later stay has the place.
 none_later : (p : Plan) (h s first k j : ℕ) (es : List Entry) → j < first → j ≤ k → filter (has_place j) (stays_from p h s first k es) ≡ []
 none_later p h s first k j [] from to = drops j (stay_of h s first None) [] (later_hasnt j h s first None from)
 none_later p h s first k j (e ∷ es) from to = step (goes_to p h e) (none_later p h s first (k + 1) j es from (omega arith)) (λ o. none_later p h o (k + 1) (k + 1) j es (omega arith) (omega arith))
@@ -79,11 +79,11 @@ none_later p h s first k j (e ∷ es) from to = step (goes_to p h e) (none_later
     step None same next = same
     step (Some o) same next = drops j (stay_of h s first (Some k)) (stays_from p h o (k + 1) (k + 1) es) (later_hasnt j h s first (Some k) from) ∙ next o
 
--- one stay has the place, that of this hart at this site
+-- One stay has the place, that of this hart at this site.
 abbrev pub Only : ℕ → List Stay → ℕ → ℕ → Type 0
 Only j stays h s = (stay : Stay) × (filter (has_place j) stays ≡ stay ∷ []) × (stay.hart ≡ h) × (stay.site ≡ s)
 
--- the first stay has its places up to where the entries begin
+-- The first stay has its places up to where the entries begin.
 first_only : (p : Plan) (h s first k j : ℕ) (es : List Entry) → first ≤ j → j ≤ k → Only j (stays_from p h s first k es) h s
 first_only p h s first k j [] from to = (stay_of h s first None, keeps j (stay_of h s first None) [] (open_has j h s first from), refl, refl)
 first_only p h s first k j (e ∷ es) from to = step (goes_to p h e) (first_only p h s first (k + 1) j es from (omega arith))
@@ -98,7 +98,7 @@ first_only p h s first k j (e ∷ es) from to = step (goes_to p h e) (first_only
       refl,
     )
 
--- the place behind the first n entries from place k on
+-- The place behind the first n entries from place k on.
 pub place_only : (p : Plan) (h first k n : ℕ) (es : List Entry) (t u : TableState) → Fits p t → first ≤ k → n ≤ length es → replay_from p t (take n es) ≡ Ok u
     → Only (k + n) (stays_from p h (owner t h) first k es) h (owner u h)
 place_only p h first k zero es t u fits from short is =

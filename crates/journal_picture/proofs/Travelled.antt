@@ -57,7 +57,7 @@ is_else a b other = go (a == b) refl
     go true is = absurd (other (is_same a b is))
     go false is = refl
 
--- a stay that has a place is one of the stays
+-- A stay that has a place is one of the stays.
 filter_visited : (j : ℕ) (stays : List Stay) (stay : Stay) (rest : List Stay) → filter (has_place j) stays ≡ stay ∷ rest → is_visited stays stay.site ≡ true
 filter_visited j [] stay rest is = absurd (cc)
 filter_visited j (first ∷ more) stay rest is = go (has_place j first) is (λ later. filter_visited j more stay rest later)
@@ -69,7 +69,7 @@ filter_visited j (first ∷ more) stay rest is = go (has_place j first) is (λ l
         subst (λ (x : Stay). ((first.site == x.site) || is_visited more x.site) ≡ true) here (self first.site (is_visited more first.site))
     go false same next = right_true (first.site == stay.site) (is_visited more stay.site) (next same)
 
--- a place at which the hart is at the site, counted from the first of these entries
+-- A place at which the hart is at the site, counted from the first of these entries.
 abbrev VisitAt : Plan → TableState → List Entry → ℕ → ℕ → Type 0
 VisitAt p t es h s = (k : ℕ) × (v : TableState) × (k ≤ length es) × (replay_from p t (take k es) ≡ Ok v) × (owner v h ≡ s)
 

@@ -19,7 +19,7 @@ use Rattle.journal_picture.specs.SvgTable.{listed_row, rows_from}
 use Rattle.journal_picture.specs.Travels.{travels_from, travels_in}
 use Rattle.journal_picture.specs.TextPicture.{band_text, bands_text, cell, lanes_of, numbers_text, sites_of, steps_up}
 
--- what a function of what is left gives, where one more is left
+-- What a function of what is left gives, where one more is left.
 one_more : {A : Type 0} (f : ℕ → A) (n i : ℕ) → i < n → f (n - i) ≡ f (suc (n - (i + 1)))
 one_more f n i lt = ap f (omega arith)
 
@@ -38,7 +38,7 @@ base_steps : (p : Plan) (n : ℕ) → steps_up p n 0 ≡ 0
 base_steps p zero = refl
 base_steps p (suc n) = refl
 
--- from the base no step is left
+-- From the base no step is left.
 pub steps_none : (p : Plan) (n at : ℕ) → at ≡ 0 → steps_up p n at ≡ 0
 steps_none p n at e = ap (steps_up p n) e ∙ base_steps p n
 

@@ -383,7 +383,7 @@ at_most p (e ∷ es) (suc k) t u s short is = go (admit_of p t e) refl is (λ v 
 pub guests_at_most : GuestsAreAtMost
 guests_at_most p es k t short leads s = at_most p es k (first_state p) t s short leads
 
--- a place after so many entries at which the site has these guests
+-- A place after so many entries at which the site has these guests.
 record ReachedAt (p : Plan) (t : TableState) (es : List Entry) (s most : ℕ) : Type 0 where
   place : ℕ
   state : TableState

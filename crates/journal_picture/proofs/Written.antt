@@ -18,11 +18,11 @@ on_four r o p q s t a b d w e f g h = on_more r o s t ((a ++ b) ++ d) w (more o 
 pub on_five : {T E : Type 0} (r : Result T E) (o p q s t u a b d w x : List ℕ) → p ≡ o ++ a → q ≡ p ++ b → s ≡ q ++ d → t ≡ s ++ w → OnOk r (u ≡ t ++ x) → OnOk r (u ≡ o ++ (((((a ++ b) ++ d)) ++ w) ++ x))
 on_five r o p q s t u a b d w x e f g h i = on_more r o t u (((a ++ b) ++ d) ++ w) x (more o s t ((a ++ b) ++ d) w (more o q s (a ++ b) d (more o p q a b e f) g) h) i
 
--- a turn of a loop that writes what is next of what is left
+-- A turn of a loop that writes what is next of what is left.
 pub turn : {A : Type 0} (o p a left after whole : List A) → o ++ left ≡ whole → left ≡ a ++ after → p ≡ o ++ a → p ++ after ≡ whole
 turn o p a left after whole so_far next wrote = ap (λ x. x ++ after) wrote ∙ append_assoc o a after ∙ ap (λ x. o ++ x) (sym next) ∙ so_far
 
--- what was pushed, where there was room
+-- What was pushed, where there was room.
 pub on_pushed : {T E : Type 0} (r : Result T E) (s q a : List ℕ) → s ≡ cond (is_ok r) (q ++ a) q → OnOk r (s ≡ q ++ a)
 on_pushed (Ok x) s q a e = e
 on_pushed (Err x) s q a e = tt

@@ -18,6 +18,7 @@ use Rattle.journal_picture.specs.Drawn.{has_fault}
 
 -- ---- an entry in words
 
+-- The word for what an entry does.
 abbrev pub verb : Entry → List ℕ
 verb (Register h s) = codes "register"
 verb (Request h s k) = codes "request"
@@ -32,6 +33,7 @@ entry_by k h does s =
     concat (codes "entry " ∷ decimal k ∷ codes ": h" ∷ decimal h ∷ codes " " ∷ does ∷ codes " s" ∷
     decimal s ∷ [])
 
+-- The words of the entry at index k: its index, its hart, its word and its site.
 abbrev pub entry_words : ℕ → Entry → List ℕ
 entry_words k e = entry_by k (hart_of e) (verb e) (site_of e)
 
@@ -46,17 +48,17 @@ wanted_owner p (Yield h s) = s
 wanted_owner p (Unregister h s) = s
 wanted_owner p (Skip h s) = parent p s
 
--- The hart is in one site and must be in another.
+-- The words of a refusal because the hart is in one site and must be in another.
 unfoldable pub elsewhere_words : ℕ → ℕ → List ℕ
 elsewhere_words o wanted =
     concat (codes "the hart is in s" ∷ decimal o ∷ codes ", not in s" ∷ decimal wanted ∷ [])
 
--- A site may request all harts but its home.
+-- The words of a refusal because the site would request more harts than all but its home.
 abbrev pub too_many_words : ℕ → ℕ → List ℕ
 too_many_words asked most =
     codes "requested " ++ decimal asked ++ codes " before, at most " ++ decimal most ++ codes " in all"
 
--- Each refusal has its words.
+-- The words of a refusal.
 abbrev pub reason_words : Plan → Entry → NotAdmitted → List ℕ
 reason_words p e refusal.NoSuchHart = codes "no such hart"
 reason_words p e refusal.NoSuchSite = codes "no such site"
@@ -73,11 +75,12 @@ reason_words p e refusal.NoCount = codes "the count is 0"
 
 -- ---- the fault's words
 
--- The refused entry with the reason. There is one at the index of each refusal.
+-- The words of a refused entry and of the refusal. There is an entry at the index of each refusal.
 abbrev pub refused_words : Plan → ℕ → Option Entry → NotAdmitted → List ℕ
 refused_words p k None why = []
 refused_words p k (Some e) why = entry_words k e ++ codes ": " ++ reason_words p e why
 
+-- The words of a fault at index k, by its reason.
 abbrev pub fault_words : Plan → List Entry → ℕ → Why → List ℕ
 fault_words p es k (Refused why) = refused_words p k (slice_get es k) why
 fault_words p es k (Unfinished s) = codes "at the end: s" ++ decimal s ++ codes " isn't gone"
@@ -91,14 +94,14 @@ abbrev pub words_of : Plan → List Entry → Option Fault → List ℕ
 words_of p es None = []
 words_of p es (Some fault) = fault_words p es fault.place fault.why
 
--- They have a line of their own.
+-- The words of the first fault as a line; nothing if there is no fault.
 abbrev pub fault_line_of : Plan → List Entry → Option Fault → List ℕ
 fault_line_of p es None = []
 fault_line_of p es (Some fault) = words_of p es (Some fault) ++ codes "\n"
 
 -- ---- laws
 
--- The condition that fails, of an entry in a state.
+-- The condition of the refusal fails for the entry in the state.
 abbrev pub Fails : Plan → TableState → Entry → NotAdmitted → Type 0
 Fails p t e refusal.NoSuchHart = ¬ IsHart p (hart_of e)
 Fails p t e refusal.NoSuchSite = ¬ IsSite p (site_of e)

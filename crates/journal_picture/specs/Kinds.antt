@@ -21,16 +21,19 @@ is_name text = nat_le (length text) 15 && list_all is_letter text
 abbrev pub kind_of : List ℕ → Kind
 kind_of text = record { letters = text ++ replicate (15 - length text) 0 }
 
+-- The kind with this name; nothing if the text can't be the name of a kind.
 abbrev pub kind_named : List ℕ → Option Kind
 kind_named text = if is_name text then Some (kind_of text) else None
 
--- The kinds of the language's schedulers.
+-- The kind of a `pool` scheduler.
 abbrev pub pool : Kind
 pool = kind_of (codes "pool")
 
+-- The kind of a `team` scheduler.
 abbrev pub team : Kind
 team = kind_of (codes "team")
 
+-- The kind of a `pipe` scheduler.
 abbrev pub pipe : Kind
 pipe = kind_of (codes "pipe")
 

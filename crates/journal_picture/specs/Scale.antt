@@ -4,11 +4,11 @@ use Rattle.std.specs.Prelude.{ℕ, ◌+◌, ◌-◌, ◌*◌, ◌/◌, ◌%◌, 
 use Rattle.transfer_table.specs.Plan.{Plan}
 use Rattle.journal_picture.specs.TextPicture.{depth_of}
 
--- How wide a place is, in a list whose last place is this: at most 72, at least 8.
+-- The width of a place, in a list whose last place is this: at most 72, at least 8.
 abbrev pub step_of : ℕ → ℕ
 step_of end = max 8 (min 72 (8328 / (end + 1)))
 
--- How many places a row has.
+-- The number of places in a row.
 abbrev pub per_row : ℕ → ℕ
 per_row end = 1388 / step_of end
 
@@ -16,11 +16,11 @@ per_row end = 1388 / step_of end
 abbrev pub row_of : ℕ → ℕ → ℕ
 row_of end place = place / per_row end
 
--- How many rows the list has.
+-- The number of rows of the list.
 abbrev pub rows_of : ℕ → ℕ
 rows_of end = row_of end end + 1
 
--- A picture has at most 32 rows. If the list has more, its first 16 and its last 16 are shown.
+-- Whether a row is shown. If the list has more than 32 rows, its first 16 and its last 16 are shown.
 abbrev pub is_shown : ℕ → ℕ → Bool
 is_shown end row = nat_lt row 16 || nat_le (rows_of end) (row + 16)
 
@@ -48,10 +48,11 @@ row_y p end row = 76 + row_height p * slot_of end row
 abbrev pub lane_y : ℕ → ℕ → ℕ
 lane_y top h = top + 40 + 44 * h
 
--- Deeper sites stand higher, down to depth 3.
+-- The level of a site's bars: the depth of the site, and 3 at most.
 abbrev pub level_of : Plan → ℕ → ℕ
 level_of p s = min 3 (depth_of p s)
 
+-- The upper end of a bar at this level in a hart's lane. A higher level has a higher bar.
 abbrev pub bar_y : ℕ → ℕ → ℕ → ℕ
 bar_y top h level = lane_y top h + 26 - 6 * level
 
@@ -63,6 +64,6 @@ rows_bottom p end = 76 + row_height p * min 32 (rows_of end)
 abbrev pub width_of : ℕ → ℕ
 width_of end = max 700 (112 + step_of end * min (per_row end) (end + 1))
 
--- Every how many entries there is a number.
+-- The distance between two entries that are numbered.
 abbrev pub every : ℕ → ℕ
 every end = 1 + 36 / step_of end

@@ -10,16 +10,16 @@ use Rattle.transfer_table.specs.declared.entry.Entry.{Entry}
 use Rattle.journal_picture.specs.Drawn.{or_same}
 use Rattle.journal_picture.specs.declared.strip.Figures.{Figures}
 
--- The unmet wishes of a site; one that isn't live has none.
+-- The number of a site's unmet wishes. A site that isn't live has none.
 abbrev pub unmet_of : Row → ℕ
 unmet_of found = if is_live found.stage then found.wishes else 0
 
--- The unmet wishes of the live sites up to this one.
+-- The number of unmet wishes of the live sites up to this one.
 abbrev pub unmet_up_to : TableState → ℕ → ℕ
 unmet_up_to t zero = 0
 unmet_up_to t (suc s) = unmet_up_to t s + unmet_of (row t (suc s))
 
--- How many of the harts from 1 up to this one are in the base.
+-- The number of harts from 1 up to this one that are in the base.
 abbrev pub idle_up_to : TableState → ℕ → ℕ
 idle_up_to t zero = 0
 idle_up_to t (suc h) = idle_up_to t h + one_if (owner t (suc h) == 0)
@@ -29,25 +29,25 @@ abbrev pub is_wishing : Plan → TableState → ℕ → Bool
 is_wishing p t s =
     (parent p s == 0) && nat_le 1 (unmet_of (row t s))
 
--- One of the sites up to this one is.
+-- One of the sites up to this one is a live child of the base with an unmet wish.
 abbrev pub wishing_up_to : Plan → TableState → ℕ → Bool
 wishing_up_to p t zero = false
 wishing_up_to p t (suc s) = wishing_up_to p t s || is_wishing p t (suc s)
 
--- All unmet wishes of the live sites.
+-- The number of unmet wishes of all live sites.
 abbrev pub unmet_in : Plan → TableState → ℕ
 unmet_in p t = unmet_up_to t (site_count p)
 
--- Idle is a hart that is in the base, but for hart 0, which runs the program's body there.
+-- The number of idle harts: the harts in the base, but for hart 0, which runs the program's body there.
 abbrev pub idle_in : Plan → TableState → ℕ
 idle_in p t = idle_up_to t (p.harts - 1)
 
--- A hart is idle while a live child of the base has an unmet wish. Only the base can lend an idle hart, so wishes of other sites don't
--- count here.
+-- A hart is idle while a live child of the base has an unmet wish. Only the base can lend an idle hart, so wishes of other
+-- sites don't count.
 abbrev pub is_missed : Plan → TableState → Bool
 is_missed p t = nat_le 1 (idle_in p t) && wishing_up_to p t (site_count p)
 
--- What the strip has for a state.
+-- The figures of the strip for a state.
 abbrev pub figures_of : Plan → TableState → Figures
 figures_of p t =
     record { unmet = unmet_in p t; idle = idle_in p t; missed = is_missed p t }
@@ -59,11 +59,12 @@ pub record HasWishesWithin (p : Plan) (t : TableState) (low high : ℕ) : Type 0
   pub below : (s : ℕ) → 1 ≤ s → s ≤ low → unmet_of (row t s) ≡ 0
   pub above : (s : ℕ) → high < s → s ≤ site_count p → unmet_of (row t s) ≡ 0
 
--- For a state, and for those to which the entries lead one after another.
+-- The figures of a state, and of the states to which the entries lead one after another.
 abbrev pub strip_from : Plan → TableState → List Entry → List Figures
 strip_from p t [] = figures_of p t ∷ []
 strip_from p t (e ∷ es) = figures_of p t ∷ strip_from p (or_same t (admit_of p t e)) es
 
+-- The figures of every place of a list, from the first state of the table on.
 abbrev pub strip_of : Plan → List Entry → List Figures
 strip_of p es = strip_from p (first_state p) es
 

@@ -11,52 +11,62 @@ use Rattle.journal_picture.specs.Stays.{stays_of}
 use Rattle.journal_picture.specs.Scale.{step_of, per_row, row_of, is_shown, place_x, row_y, level_of, bar_y}
 use Rattle.journal_picture.specs.TextPicture.{last_or, site_name}
 
--- What the program says of the site; the base has no shape.
+-- The shape of the site; the base has no shape.
 abbrev pub shape_of : List Shape → ℕ → Option Shape
 shape_of shapes s = if s == 0 then None else slice_get shapes (s - 1)
 
 -- ---- colours by depth; the outline is dashed if the site has phases
 
+-- The fill colour of a site at this level.
 abbrev pub depth_fill : ℕ → List ℕ
 depth_fill level =
     if level == 1 then codes "#cfe3f8" else if level == 2 then codes "#9fc8f0" else codes "#6fabe4"
 
+-- The outline of a site's bar; it is dashed if the site has phases.
 abbrev pub outline : Bool → List ℕ
 outline phased =
     if phased then codes "' stroke-dasharray='4 2' stroke='#2c5d8f" else codes "' stroke='#2c5d8f"
 
+-- The fill and the outline of a site's bar.
 abbrev pub site_fill : Bool → ℕ → List ℕ
 site_fill phased level = depth_fill level ++ outline phased
 
--- In the base hart 0 runs the program's body; another hart there is idle.
+-- The fill and the outline of a bar in the base. Hart 0 runs the program's body there; any other hart is idle.
 abbrev pub base_fill : ℕ → List ℕ
 base_fill h = if h == 0 then codes "#e9f3e4' stroke='#4f7a3a" else codes "#e3e6e9' stroke='#9aa4ad"
 
+-- The fill and the outline of a bar: the site's if it has a shape, else the base's.
 abbrev pub fill_text : Option Shape → ℕ → ℕ → List ℕ
 fill_text None h level = base_fill h
 fill_text (Some shape) h level = site_fill shape.phased level
 
 -- ---- the title of a bar: the hart, the site with its kind and line, and from which entry to which the hart is there
 
+-- The kind and the source line of a site, in words.
 abbrev pub about_by : List ℕ → ℕ → List ℕ
 about_by kind line = concat (codes ", " ∷ kind ∷ codes ", line " ∷ decimal line ∷ [])
 
+-- The words of a bar's title about the site's shape. For the base, the words about what the hart does there.
 abbrev pub about_text : Option Shape → ℕ → List ℕ
 about_text None h = if h == 0 then codes ", the program's body" else codes ", idle"
 about_text (Some shape) h = about_by (kind_text shape.kind) shape.line
 
+-- The first entry of a stay, in words.
 abbrev pub since_text : ℕ → List ℕ
 since_text first =
     if first == 0 then codes ", from the start" else codes ", from entry " ++ decimal (first - 1)
 
+-- The last entry of a stay, in words; a stay without one lasts to the end.
 abbrev pub until_text : Option ℕ → List ℕ
 until_text None = codes " to the end"
 until_text (Some last) = codes " to entry " ++ decimal last
 
+-- The title of a bar, joined from its parts.
 unfoldable pub title_by : ℕ → List ℕ → List ℕ → List ℕ → List ℕ → List ℕ
 title_by h name about since until =
     concat (codes "h" ∷ decimal h ∷ codes " in " ∷ name ∷ about ∷ since ∷ until ∷ [])
 
+-- The title of a stay's bar.
 abbrev pub stay_title : List Shape → Stay → List ℕ
 stay_title shapes stay =
     title_by stay.hart (site_name stay.site) (about_text (shape_of shapes stay.site) stay.hart)
@@ -64,31 +74,36 @@ stay_title shapes stay =
 
 -- ---- a bar
 
+-- A rectangle as SVG, 14 units high, with a title.
 unfoldable pub rect_text : ℕ → ℕ → ℕ → List ℕ → List ℕ → List ℕ
 rect_text x y width fill title =
     concat (codes "<rect x='" ∷ decimal x ∷ codes "' y='" ∷ decimal y ∷ codes "' width='" ∷
     decimal width ∷ codes "' height='14' fill='" ∷ fill ∷ codes "'><title>" ∷ title ∷
     codes "</title></rect>\n" ∷ [])
 
+-- The words of a bar's label as SVG, at this position.
 abbrev pub words_text : ℕ → ℕ → List ℕ → List ℕ → List ℕ
 words_text x y name word =
     concat (codes "<text x='" ∷ decimal x ∷ codes "' y='" ∷ decimal y ∷ codes "'>" ∷ name ∷
     word ∷ codes "</text>\n" ∷ [])
 
--- The label of a bar where it is wide enough: the site, and the kind too where there is room for both.
+-- The kind in a bar's label; nothing if the bar has no room for the site and the kind.
 abbrev pub kind_label_by : List ℕ → ℕ → ℕ → List ℕ
 kind_label_by kind letters width =
     if nat_le (width / 7 - (length kind + 1)) letters then [] else codes " " ++ kind
 
+-- The kind in a bar's label, if the site has a shape and the bar has room for the kind.
 abbrev pub kind_label : Option Shape → ℕ → ℕ → List ℕ
 kind_label None letters width = []
 kind_label (Some shape) letters width = kind_label_by (kind_text shape.kind) letters width
 
+-- The label of a bar as SVG; nothing if the bar is too narrow for the site's name.
 abbrev pub label_text : ℕ → ℕ → ℕ → List ℕ → Option Shape → List ℕ
 label_text x y width name shape =
     if nat_le (width / 7) (length name) then []
     else words_text (x + width / 2) (y + 11) name (kind_label shape (length name) width)
 
+-- A bar at this position: its rectangle and its label.
 abbrev pub placed_bar : ℕ → ℕ → ℕ → List ℕ → Stay → Option Shape → ℕ → List ℕ
 placed_bar x y width title stay shape level =
     rect_text x y width (fill_text shape stay.hart level) title
@@ -96,13 +111,15 @@ placed_bar x y width title stay shape level =
 
 -- ---- the parts of a stay, in a list whose last place is this
 
--- Its first place in a row, and its last.
+-- The first place of a stay in this row.
 abbrev pub first_in : ℕ → Stay → ℕ → ℕ
 first_in end stay row = max stay.first (per_row end * row)
 
+-- The last place of a stay in this row.
 abbrev pub last_in : ℕ → Stay → ℕ → ℕ
 last_in end stay row = min (last_or end stay.last) (per_row end * row + (per_row end - 1))
 
+-- The bar of a stay in a row that is shown.
 abbrev pub shown_part : Plan → List Shape → ℕ → Stay → ℕ → List ℕ
 shown_part p shapes end stay row =
     placed_bar (place_x end (first_in end stay row))
@@ -110,28 +127,31 @@ shown_part p shapes end stay row =
     (step_of end * (last_in end stay row + 1 - first_in end stay row)) (stay_title shapes stay) stay
     (shape_of shapes stay.site) (level_of p stay.site)
 
+-- The bar of a stay in this row; nothing if the row isn't shown.
 abbrev pub part_text : Plan → List Shape → ℕ → Stay → ℕ → List ℕ
 part_text p shapes end stay row =
     if is_shown end row then shown_part p shapes end stay row else []
 
--- Those in so many rows, from this one on.
+-- The bars of a stay in n rows, from this row on.
 abbrev pub parts_text : Plan → List Shape → ℕ → Stay → ℕ → ℕ → List ℕ
 parts_text p shapes end stay row zero = []
 parts_text p shapes end stay row (suc n) =
     part_text p shapes end stay row ++ parts_text p shapes end stay (row + 1) n
 
--- In how many rows a stay has places.
+-- The number of rows in which a stay has places.
 abbrev pub row_count : ℕ → Stay → ℕ
 row_count end stay = row_of end (last_or end stay.last) + 1 - row_of end stay.first
 
+-- The bars of one stay, one in each of its rows that is shown.
 abbrev pub bar_text : Plan → List Shape → ℕ → Stay → List ℕ
 bar_text p shapes end stay =
     parts_text p shapes end stay (row_of end stay.first) (row_count end stay)
 
+-- The bars of all these stays.
 abbrev pub bars_text : Plan → List Shape → ℕ → List Stay → List ℕ
 bars_text p shapes end stays = flat_map (λ stay. bar_text p shapes end stay) stays
 
--- The bars of so many harts, from this one on.
+-- The bars of n harts, from hart h on.
 abbrev pub lanes_svg : Plan → List Shape → List Entry → ℕ → ℕ → List ℕ
 lanes_svg p shapes es h zero = []
 lanes_svg p shapes es h (suc n) =

@@ -11,7 +11,7 @@ use Rattle.journal_picture.specs.SvgBars.{about_text, shape_of}
 use Rattle.journal_picture.specs.TextPicture.{fate_text, site_name}
 use Rattle.journal_picture.specs.Visits.{visits_at}
 
--- At most 40 sites are listed. If there are more, the first 20 and the last 20 are.
+-- Whether a site is listed. If there are more than 40 sites, the first 20 and the last 20 are listed.
 abbrev pub is_listed : ℕ → ℕ → Bool
 is_listed sites s = nat_le s 20 || nat_lt sites (s + 20)
 
@@ -19,59 +19,65 @@ is_listed sites s = nat_le s 20 || nat_lt sites (s + 20)
 abbrev pub slot_at : ℕ → ℕ → ℕ
 slot_at sites s = if nat_le s 20 then s else min 40 (s - (sites - 40))
 
--- How high the table is: a line of 18 units for each site that is listed, and two more. Without sites there is no table.
+-- The height of the table of sites: a line of 18 units for each site that is listed, and two more lines. Without sites, 0.
 abbrev pub table_height : ℕ → ℕ
 table_height sites = if sites == 0 then 0 else 18 * (min 40 sites + 2)
 
--- A table that leaves sites out says so.
+-- The heading of the last column, with a note if the table leaves out sites.
 abbrev pub sites_note : ℕ → List ℕ
 sites_note sites =
     if nat_le sites 40 then codes "site"
     else concat (codes "site: of " ∷ decimal sites ∷ codes " the first 20 and the last 20" ∷ [])
 
+-- The headings of the table of sites as SVG.
 unfoldable pub table_head : ℕ → List ℕ → List ℕ
 table_head y note =
     concat (codes "<text y='" ∷ decimal y ∷
     codes "' font-weight='bold'><tspan x='86'>requested</tspan><tspan x='146'>met</tspan><tspan x='196'>unmet</tspan><tspan x='266'>most guests</tspan><tspan x='366'>entries inside</tspan><tspan x='426' text-anchor='start'>" ∷
     note ∷ codes "</tspan></text>\n" ∷ [])
 
+-- The start of a site's line as SVG: its requested harts, its met wishes and its unmet wishes.
 unfoldable pub wishes_part : ℕ → ℕ → ℕ → ℕ → List ℕ
 wishes_part y requested met unmet =
     concat (codes "<text y='" ∷ decimal y ∷ codes "'><tspan x='86'>" ∷ decimal requested ∷
     codes "</tspan><tspan x='146'>" ∷ decimal met ∷ codes "</tspan><tspan x='196'>" ∷
     decimal unmet ∷ codes "</tspan>" ∷ [])
 
+-- The rest of a site's line as SVG: its most guests, the entries made inside it, and its words.
 unfoldable pub visits_part : ℕ → ℕ → List ℕ → List ℕ
 visits_part guests entries words =
     concat (codes "<tspan x='266'>" ∷ decimal guests ∷ codes "</tspan><tspan x='366'>" ∷
     decimal entries ∷ codes "</tspan><tspan x='426' text-anchor='start'>" ∷ words ∷
     codes "</tspan></text>\n" ∷ [])
 
+-- A site's line in the table, at this height.
 abbrev pub table_row : ℕ → ℕ → ℕ → ℕ → Visits → List ℕ → List ℕ
 table_row y requested met unmet v words =
     wishes_part y requested met unmet ++ visits_part v.guests v.entries words
 
--- A site inside another one names it.
+-- The words about the site around; nothing for a site inside the base.
 abbrev pub inside_text : ℕ → List ℕ
 inside_text around = if around == 0 then [] else codes ", in s" ++ decimal around
 
--- The site, what it is, where it is, and what became of it.
+-- The words of a site's line: its name, its shape, the site around, and what became of it.
 abbrev pub site_words : Plan → TableState → List Shape → ℕ → List ℕ
 site_words p t shapes s =
     site_name s ++ about_text (shape_of shapes s) 0 ++ inside_text (parent p s)
     ++ fate_text (row t s).stage (row t s).home
 
+-- The line of a site that is listed, in a table whose first line is at height `top`.
 abbrev pub site_row : Plan → TableState → List Visits → List Shape → ℕ → ℕ → List ℕ
 site_row p t vs shapes top s =
     table_row (top + 18 * slot_at (site_count p) s) (row t s).asked
     ((row t s).asked - (row t s).wishes) (row t s).wishes (visits_at vs s)
     (site_words p t shapes s)
 
+-- The line of a site; nothing if the site isn't listed.
 abbrev pub listed_row : Plan → TableState → List Visits → List Shape → ℕ → ℕ → List ℕ
 listed_row p t vs shapes top s =
     if is_listed (site_count p) s then site_row p t vs shapes top s else []
 
--- The lines of so many sites, from this one on.
+-- The lines of n sites, from site s on.
 abbrev pub rows_from : Plan → TableState → List Visits → List Shape → ℕ → ℕ → ℕ → List ℕ
 rows_from p t vs shapes top s zero = []
 rows_from p t vs shapes top s (suc n) =
@@ -82,18 +88,20 @@ abbrev pub sites_table : Plan → TableState → List Visits → List Shape → 
 sites_table p t vs shapes top sites =
     table_head top (sites_note sites) ++ rows_from p t vs shapes top 1 sites
 
--- A plan without sites has no table.
+-- The table of a plan's sites; nothing for a plan without sites.
 abbrev pub table_svg : Plan → TableState → List Visits → List Shape → ℕ → List ℕ
 table_svg p t vs shapes top =
     if site_count p == 0 then [] else sites_table p t vs shapes top (site_count p)
 
 -- ---- the table of harts
 
+-- The headings of the table of harts as SVG.
 unfoldable pub harts_head : ℕ → List ℕ
 harts_head y =
     concat (codes "<text y='" ∷ decimal y ∷
     codes "' font-weight='bold'><tspan x='86'>entries made</tspan><tspan x='166'>stays</tspan><tspan x='246'>sites visited</tspan><tspan x='306' text-anchor='start'>hart</tspan></text>\n" ∷ [])
 
+-- A hart's line in the table as SVG, at this height.
 unfoldable pub hart_row : ℕ → ℕ → ℕ → ℕ → ℕ → List ℕ
 hart_row y entries stays sites h =
     concat (codes "<text y='" ∷ decimal y ∷ codes "'><tspan x='86'>" ∷ decimal entries ∷
@@ -107,11 +115,11 @@ hart_rows top h [] = []
 hart_rows top h (v ∷ more) =
     hart_row (top + 18 * (h + 1)) v.entries v.stays v.sites h ++ hart_rows top (h + 1) more
 
--- The table whose first line is at this height.
+-- The table of harts, whose first line is at this height.
 abbrev pub harts_table : ℕ → List Travels → List ℕ
 harts_table top vs = harts_head top ++ hart_rows top 0 vs
 
--- How high the table of so many harts is.
+-- The height of the table of so many harts.
 abbrev pub harts_height : ℕ → ℕ
 harts_height harts = 18 * (harts + 2)
 
@@ -120,5 +128,6 @@ abbrev pub tables_svg : Plan → TableState → List Visits → List Travels →
 tables_svg p t vs ts shapes top =
     table_svg p t vs shapes top ++ harts_table (top + table_height (site_count p)) ts
 
+-- The height of both tables of a plan.
 abbrev pub tables_height : Plan → ℕ
 tables_height p = table_height (site_count p) + harts_height p.harts

@@ -47,7 +47,7 @@ lanes_of p es h (suc n) = sites_of (length es) (stays_of p h es) ∷ lanes_of p 
 
 -- ---- the bands
 
--- So many blanks stand in a row.
+-- A text of n blanks.
 abbrev pub blanks : ℕ → List ℕ
 blanks n = replicate n 32
 
@@ -55,11 +55,11 @@ blanks n = replicate n 32
 abbrev pub cell : List ℕ → List ℕ
 cell text = blanks (6 - length text) ++ text
 
--- The name of a site is its number behind an `s`; the base has a word.
+-- The name of a site: its number behind an `s`, or `base`.
 abbrev pub site_name : ℕ → List ℕ
 site_name s = if s == 0 then codes "base" else codes "s" ++ decimal s
 
--- Each kind of entry has its word.
+-- The word of an entry's kind.
 abbrev pub deed : Entry → List ℕ
 deed (Register h s) = codes "reg"
 deed (Request h s k) = codes "req"
@@ -73,7 +73,7 @@ abbrev pub numbers_text : ℕ → List Entry → List ℕ
 numbers_text k [] = []
 numbers_text k (e ∷ es) = cell (decimal k) ++ numbers_text (k + 1) es
 
--- The words of the entries stand in cells, one behind another.
+-- The words of the entries, each in a cell.
 abbrev pub deeds_text : List Entry → List ℕ
 deeds_text es = flat_map (λ e. cell (deed e)) es
 
@@ -90,13 +90,15 @@ doer (Yield h s) = codes "h" ++ decimal h
 doer (Unregister h s) = codes "h" ++ decimal h
 doer (Skip h s) = codes "h" ++ decimal h
 
+-- The harts of the entries, each in a cell.
 abbrev pub doers_text : List Entry → List ℕ
 doers_text es = flat_map (λ e. cell (doer e)) es
 
--- The sites that entries are of.
+-- The sites of the entries, each in a cell.
 abbrev pub at_sites_text : List Entry → List ℕ
 at_sites_text es = flat_map (λ e. cell (site_name (site_of e))) es
 
+-- The names of these sites, each in a cell.
 abbrev pub sites_text : List ℕ → List ℕ
 sites_text sites = flat_map (λ s. cell (site_name s)) sites
 
@@ -104,7 +106,7 @@ sites_text sites = flat_map (λ s. cell (site_name s)) sites
 abbrev pub name_cell : List ℕ → List ℕ
 name_cell text = text ++ blanks (3 - length text)
 
--- The name of a hart is its number behind an `h`, in a cell of its own width.
+-- The name of a hart, its number behind an `h`, at the left of three columns.
 abbrev pub hart_name : ℕ → List ℕ
 hart_name h = name_cell (codes "h" ++ decimal h)
 
@@ -120,41 +122,50 @@ mark_text true true = cell (codes "fault")
 mark_text true false = []
 mark_text false last = []
 
--- The line of the entries' numbers, and that of what they do.
+-- The line of the entries' numbers, with the mark of a fault.
 abbrev pub numbers_line : Bool → Bool → ℕ → List Entry → List ℕ
 numbers_line faulty last at shown =
     codes "    entry" ++ numbers_text at shown ++ mark_text faulty last ++ codes "\n"
 
--- The line of the entries has their words behind the margin.
+-- The line of the entries' words.
 abbrev pub deeds_line : List Entry → List ℕ
 deeds_line shown = codes "         " ++ deeds_text shown ++ codes "\n"
 
+-- The line of the entries' harts.
 abbrev pub doers_line : List Entry → List ℕ
 doers_line shown = codes "         " ++ doers_text shown ++ codes "\n"
 
+-- The line of the entries' sites.
 abbrev pub at_sites_line : List Entry → List ℕ
 at_sites_line shown = codes "         " ++ at_sites_text shown ++ codes "\n"
 
+-- The three lines of the entries: their words, their harts and their sites.
 abbrev pub deed_lines : List Entry → List ℕ
 deed_lines shown = deeds_line shown ++ doers_line shown ++ at_sites_line shown
 
 -- ---- the strip: how many wishes are unmet at each place, and how many harts idle, with a mark where a lender missed a wish
 
+-- The numbers of unmet wishes at these places, each in a cell.
 abbrev pub unmets_text : List Figures → List ℕ
 unmets_text fs = flat_map (λ (f : Figures). cell (decimal f.unmet)) fs
 
+-- The number of idle harts at a place, behind a `!` if a lender missed a wish.
 abbrev pub idle_words : Figures → List ℕ
 idle_words f = if f.missed then codes "!" ++ decimal f.idle else decimal f.idle
 
+-- The numbers of idle harts at these places, each in a cell.
 abbrev pub idles_text : List Figures → List ℕ
 idles_text fs = flat_map (λ (f : Figures). cell (idle_words f)) fs
 
+-- The line of unmet wishes.
 abbrev pub unmet_line : List Figures → List ℕ
 unmet_line shown = codes "unm" ++ unmets_text shown ++ codes "\n"
 
+-- The line of idle harts, which an empty line follows.
 abbrev pub idle_line : List Figures → List ℕ
 idle_line shown = codes "idl" ++ idles_text shown ++ codes "\n\n"
 
+-- The two lines of the strip.
 abbrev pub strip_lines : List Figures → List ℕ
 strip_lines shown = unmet_line shown ++ idle_line shown
 
@@ -165,39 +176,39 @@ band_text faulty es lanes strip at =
     ++ deed_lines (take 14 (drop at es)) ++ lanes_text at 0 lanes
     ++ strip_lines (take 15 (drop at strip))
 
--- So many bands, from one on.
+-- The texts of n bands, from this band on.
 abbrev pub bands_text : Bool → List Entry → List (List ℕ) → List Figures → ℕ → ℕ → List ℕ
 bands_text faulty es lanes strip band zero = []
 bands_text faulty es lanes strip band (suc n) =
     band_text faulty es lanes strip (14 * band) ++ bands_text faulty es lanes strip (band + 1) n
 
--- A list without entries has one band too.
+-- The number of bands of a list. A list without entries has one band.
 abbrev pub band_count : ℕ → ℕ
 band_count entries = if entries == 0 then 1 else (entries + 13) / 14
 
 -- ---- the tree of the sites
 
--- How many steps lead from a site to the base, if they are at most so many.
+-- The number of steps from a site to the base, up to the limit n.
 abbrev pub steps_up : Plan → ℕ → ℕ → ℕ
 steps_up p zero s = 0
 steps_up p (suc n) s = if s == 0 then 0 else 1 + steps_up p n (parent p s)
 
--- How deep a site is; the base is at depth 0.
+-- The depth of a site. The base is at depth 0.
 abbrev pub depth_of : Plan → ℕ → ℕ
 depth_of p s = steps_up p s s
 
--- The home of a site is named, and a site without one is skipped.
+-- The words about a site's home. A site without a home is skipped.
 abbrev pub home_text : Option ℕ → List ℕ
 home_text None = codes ", skipped"
 home_text (Some h) = codes ", home h" ++ decimal h
 
--- What became of a site.
+-- The words about what became of a site.
 abbrev pub fate_text : Stage → Option ℕ → List ℕ
 fate_text New home = codes ", not entered"
 fate_text Live home = home_text home ++ codes ", not ended"
 fate_text Gone home = home_text home
 
--- A line of the tree begins with the site's name, its kind and its line in the program.
+-- The site's name, its kind and its source line, indented by the site's depth.
 abbrev pub site_start : ℕ → ℕ → Shape → List ℕ
 site_start depth s shape =
     blanks (2 * depth) ++ (codes "s" ++ decimal s ++ codes " " ++ kind_text shape.kind
@@ -212,11 +223,12 @@ wish_cells asked wishes =
 abbrev pub visit_cells : Visits → List ℕ
 visit_cells v = cell (decimal v.guests) ++ cell (decimal v.entries) ++ codes "  "
 
+-- The start of a site's line in the tree: its numbers, its name, its kind and its source line.
 abbrev pub line_start : ℕ → ℕ → Shape → Row → Visits → List ℕ
 line_start depth s shape found v =
     wish_cells found.asked found.wishes ++ visit_cells v ++ site_start depth s shape
 
--- A line of the tree has the site's numbers, and the site with what became of it.
+-- A line of the tree: the site's numbers, the site, and what became of it.
 abbrev pub site_line : ℕ → ℕ → Shape → Row → Visits → List ℕ
 site_line depth s shape found v =
     line_start depth s shape found v ++ fate_text found.stage found.home ++ codes "\n"
@@ -227,7 +239,7 @@ site_lines p t vs s [] = []
 site_lines p t vs s (shape ∷ more) =
     site_line (depth_of p s) s shape (row t s) (visits_at vs s) ++ site_lines p t vs (s + 1) more
 
--- The tree begins with the base, behind the names of the numbers, and has a line for each site.
+-- The tree of the sites: the names of the numbers, the base, and a line for each site.
 abbrev pub tree_text : Plan → TableState → List Visits → List Shape → List ℕ
 tree_text p t vs shapes =
     codes "   req   met unmet guest  made  base\n" ++ site_lines p t vs 1 shapes
@@ -239,10 +251,11 @@ abbrev pub travel_cells : Travels → List ℕ
 travel_cells v =
     cell (decimal v.entries) ++ cell (decimal v.stays) ++ cell (decimal v.sites)
 
--- The name of the hart ends its line.
+-- The end of a hart's line: the hart's name.
 abbrev pub hart_end : ℕ → List ℕ
 hart_end h = concat (codes "  h" ∷ decimal h ∷ codes "\n" ∷ [])
 
+-- The line of a hart in the table of harts.
 abbrev pub hart_line : ℕ → Travels → List ℕ
 hart_line h v = travel_cells v ++ hart_end h
 
@@ -251,35 +264,36 @@ abbrev pub hart_lines : ℕ → List Travels → List ℕ
 hart_lines h [] = []
 hart_lines h (v ∷ more) = hart_line h v ++ hart_lines (h + 1) more
 
--- The table has the names of the numbers, and a line for each hart.
+-- The table of harts: the names of the numbers, and a line for each hart.
 abbrev pub harts_text : List Travels → List ℕ
 harts_text vs = codes "\n  made stays sites  hart\n" ++ hart_lines 0 vs
 
--- The legend explains the words of entries, of the strip and of the numbers of sites and harts.
+-- The legend, which explains the words of entries, of the strip and of the numbers of sites and harts.
 abbrev pub legend_text : List ℕ
 legend_text =
     codes "\nreg registers a site, req requests harts, unreg unregisters the site\nunm unmet wishes, idl idle harts, ! a child of the base has an unmet wish while a hart is idle\nof sites: req requested harts, met and unmet wishes, guest most guests at once, made entries inside\nof harts: made entries, stays with those in the base, sites visited, each once\n"
 
 -- ---- the whole, with the verdict's line
 
+-- The picture up to the last lines: the bands, the tree of the sites, the table of harts, and the legend.
 abbrev pub shown_text : Plan → TableState → List Shape → List Entry → List (List ℕ) → List Figures
     → List Visits → List Travels → Bool → List ℕ
 shown_text p t shapes es lanes strip vs ts faulty =
     bands_text faulty es lanes strip 0 (band_count (length es)) ++ tree_text p t vs shapes
     ++ harts_text ts ++ legend_text
 
--- The picture of these entries ends with these lines.
+-- The picture of these entries, with these lines at its end.
 abbrev pub text_of : Plan → List Shape → List Entry → Bool → List ℕ → List ℕ
 text_of p shapes es faulty ending =
     shown_text p (state_after p es) shapes es (lanes_of p es 0 p.harts) (strip_of p es)
     (visits_of p es) (travels_of p es) faulty
     ++ ending
 
--- The lines at the end are that of the fault, if there is one, and the verdict.
+-- The lines at the end of a picture: the line of the fault, if there is a fault, and the verdict.
 abbrev pub ending_of : Plan → List Bool → List Entry → List ℕ → List ℕ
 ending_of p meant es verdict = fault_line_of p es (first_fault_of p meant es) ++ verdict
 
--- The picture of a list is that of its entries before the first fault.
+-- The text picture of a list: the picture of its entries before the first fault.
 abbrev pub text_picture : Plan → List Bool → List Shape → List Entry → List ℕ → List ℕ
 text_picture p meant shapes es verdict =
     text_of p shapes (drawn p meant es) (has_fault p meant es) (ending_of p meant es verdict)

@@ -34,11 +34,12 @@ travels_in p es h = record {
   sites = visited_up_to (stays_of p h es) (site_count p);
 }
 
--- Those of so many harts, from this one on.
+-- The numbers of n harts, from hart h on.
 abbrev pub travels_from : Plan → List Entry → ℕ → ℕ → List Travels
 travels_from p es h zero = []
 travels_from p es h (suc n) = travels_in p es h ∷ travels_from p es (h + 1) n
 
+-- The numbers of every hart of the plan.
 abbrev pub travels_of : Plan → List Entry → List Travels
 travels_of p es = travels_from p es 0 p.harts
 

@@ -48,11 +48,12 @@ visits_in p es s = record {
   entries = made_from p (first_state p) es s;
 }
 
--- Those of so many sites, from this one on.
+-- The numbers of n sites, from site s on.
 abbrev pub visits_from : Plan → List Entry → ℕ → ℕ → List Visits
 visits_from p es s zero = []
 visits_from p es s (suc n) = visits_in p es s ∷ visits_from p es (s + 1) n
 
+-- The numbers of every site of the plan.
 abbrev pub visits_of : Plan → List Entry → List Visits
 visits_of p es = visits_from p es 1 (site_count p)
 
@@ -83,6 +84,7 @@ abbrev pub followed_by : Plan → TableState → TableState → List Visits → 
 followed_by p t u vs e =
     with_guests (with_entry vs (site_at p t e)) (site_at p u e) (guests_in p u (site_at p u e))
 
+-- The numbers of the sites after one more entry. A refused entry leaves the table's state unchanged.
 abbrev pub followed : Plan → TableState → List Visits → Entry → List Visits
 followed p t vs e = followed_by p t (or_same t (admit_of p t e)) vs e
 

@@ -12,7 +12,7 @@ use Rattle.std.proofs.lemmas.Str.Parse.{digit_at}
 use Rattle.journal_text.proofs.Numbers.{digits_of_decimal}
 use Rattle.journal_text.proofs.Steps.{not_equal}
 
--- the word hasn't the byte
+-- The word hasn't the byte.
 abbrev pub IsFree : ℕ → List ℕ → Type 0
 IsFree c word = All (λ (byte : ℕ). (byte == c) ≡ false) word
 
@@ -49,7 +49,7 @@ pub lettered_free : (c letter n : ℕ) → c < 48 → 48 ≤ letter → n < 2 ^ 
 lettered_free c letter n low high small =
     All-cons (λ (byte : ℕ). (byte == c) ≡ false) letter (decimal n) (not_equal (letter == c) (λ e. let same : letter ≡ c = eqb-true letter c e in omega arith)) (decimal_free c n low small)
 
--- the word is of digits and letters
+-- The word is of digits and letters.
 abbrev pub is_high : List ℕ → Bool
 is_high [] = true
 is_high (byte ∷ more) = nat_le 48 byte && is_high more

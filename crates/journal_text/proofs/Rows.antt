@@ -36,7 +36,7 @@ row_rest row = (104 ∷ row.hart) ∷ action_of row.deed ∷ (115 ∷ row.site) 
 abbrev pub row_words : Row → List (List ℕ)
 row_words row = row.place ∷ row_rest row
 
--- the row of an entry at an index
+-- The row of an entry at an index.
 abbrev pub row_for : Plan → ℕ → Entry → Row
 row_for plan place (Register hart site) = row_with (decimal place) (decimal hart) (decimal site) (registers (decimal (parent plan site)))
 row_for plan place (Request hart site count) = row_with (decimal place) (decimal hart) (decimal site) (requests (decimal count))
@@ -113,7 +113,7 @@ bare_cases false false true d action deed ea eb ec ed e = let same : unregisters
 bare_cases false false false true action deed ea eb ec ed e = let same : skips ≡ deed = cc e in subst (λ (d : Deed). (action ≡ action_of d) × (words_behind d ≡ [])) same (ed refl, refl)
 bare_cases false false false false action deed ea eb ec ed e = cc e
 
--- an action with no word behind the site
+-- An action with no word behind the site.
 bare_deed : (action : List ℕ) (deed : Deed) → deed_of action [] ≡ Some deed → (action ≡ action_of deed) × (words_behind deed ≡ [])
 bare_deed action deed e = bare_cases (is_word (codes "enter") action) (is_word (codes "yield") action) (is_word (codes "unregister") action) (is_word (codes "skip") action) action deed
     (word_is (codes "enter") action) (word_is (codes "yield") action) (word_is (codes "unregister") action) (word_is (codes "skip") action) e
@@ -150,7 +150,7 @@ row_words_of (a ∷ []) row e = cc e
 row_words_of (a ∷ b ∷ []) row e = cc e
 row_words_of (a ∷ b ∷ c ∷ []) row e = cc e
 
--- the row of an entry that was read
+-- The row of an entry that was read.
 abbrev IsRowFor : Plan → ℕ → Row → Entry → Type 0
 IsRowFor plan place row entry = (row ≡ row_for plan place entry) × IsEntry entry
 

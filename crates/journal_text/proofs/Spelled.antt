@@ -71,7 +71,7 @@ row_free plan right place small (Unregister hart site) fits c low =
 row_free plan right place small (Skip hart site) fits c low =
     bare_free place hart site (codes "skip") c low small fits.hart fits.site (high_free c low (codes "skip") refl)
 
--- the words of an entry's line, and that the line has no newline
+-- The words of an entry's line, and that the line has no newline.
 words_written : (plan : Plan) → IsPlan plan → (place : ℕ) → place < 2 ^ 32 → (entry : Entry) → IsEntry entry
     → words_of (join_with_byte 32 (row_words (row_for plan place entry))) ≡ row_words (row_for plan place entry)
 words_written plan right place small entry fits = split_joined 32 (row_for plan place entry).place (row_rest (row_for plan place entry)) (row_free plan right place small entry fits 32 (omega arith))

@@ -13,7 +13,7 @@ pub not_equal : (b : Bool) → (b ≡ true → ⊥) → b ≡ false
 not_equal true never = absurd (never refl)
 not_equal false never = refl
 
--- the entries that follow these
+-- The entries that follow these.
 abbrev pub behind : List Entry → Result (List Entry) TextFault → Result (List Entry) TextFault
 behind front (Ok rest) = Ok (front ++ rest)
 behind front (Err fault) = Err fault

@@ -6,13 +6,13 @@ use Rattle.transfer_table.specs.declared.entry.Entry.{Entry}
 use Rattle.journal_text.specs.JournalText.{journal_text}
 use Rattle.journal_text.specs.Reading.{most_hart, most_site, most_count}
 
--- the entry's numbers fit the types of a hart, a site and a count; stated since lists in contracts have no bound of their own
+-- The entry's numbers fit the types of a hart, a site and a count; stated since lists in contracts have no bound of their own.
 pub record IsEntry (entry : Entry) : Type 0 where
   pub hart : hart_of entry ≤ most_hart
   pub site : site_of entry ≤ most_site
   pub count : count_of entry ≤ most_count
 
--- the text is the journal of these entries, of which there are no more than a legal list may have
+-- The text is the journal of these entries, of which there are no more than a legal list may have.
 pub record IsJournalOf (plan : Plan) (list : List Entry) (text : List ℕ) : Type 0 where
   pub few : length list ≤ most_entries
   pub entries : All IsEntry list

@@ -3,7 +3,7 @@ use Rattle.std.proofs.Common.{◌≡◌, ℕ, List, [], ◌∷◌, ap}
 use Rattle.atomic_table.specs.Seated.{TableId}
 use Rattle.lent_board.specs.PortViews.{table_name}
 
--- the table of a name
+-- The table of a name.
 abbrev of_name : List ℕ → TableId
 of_name (w ∷ s ∷ v ∷ a ∷ b ∷ o ∷ names) = record { words = w; slots = s; views_name = v; atom = a; block = b; offset = o; slot_names = names }
 of_name _ = record { words = 0; slots = 0; views_name = 0; atom = 0; block = 0; offset = 0; slot_names = [] }

@@ -67,7 +67,7 @@ written ending.Written s e = inl (sym e)
 written ending.Illegal s e = inr (sym e)
 
 module _ {A B E : Type 0} (see : Outside A B E) (words : List (List ℕ)) (source source' : A) where
-  -- the words alone leave the source unread
+  -- The words alone leave the source unread.
   abbrev Stays : Type 0
   Stays = (form_of words ≡ None → source' ≡ source)
       × ((seed size harts : ℕ) → form_of words ≡ Some (Make seed size harts) → source' ≡ source)

@@ -7,7 +7,7 @@ use Rattle.std.proofs.lemmas.List.{drop_more}
 use Rattle.array_meaning.specs.Stores.{Store, at_cell}
 use Rattle.lithe_call.specs.Summary.{whole_sum}
 
--- the sum so far with the cells from one on
+-- The sum so far with the cells from one on.
 abbrev pub with_rest : ℤ → ℕ → Store → ℤ
 with_rest sum cell store = int_wrap w64 (sum +ℤ whole_sum (drop cell store))
 

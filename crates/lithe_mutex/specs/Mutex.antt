@@ -30,7 +30,7 @@ abbrev pub Acquires : {T C : Type 0} → Possession T C → C → Acquired T C �
 Acquires (Free value) c answer after = (answer ≡ Got value c) × (after ≡ Held [])
 Acquires (Held waiting) c answer after = (answer ≡ Kept) × (after ≡ Held (waiting ++ c ∷ []))
 
--- the mutex is held
+-- The mutex is held.
 abbrev pub IsHeld : {T C : Type 0} → Possession T C → Type 0
 IsHeld (Free value) = ⊥
 IsHeld (Held waiting) = Unit {0}

@@ -11,7 +11,7 @@ pub data Event (T C : Type 0) : Type 0 where
   Acquire : (c : C) (answer : Acquired T C) → Event T C
   Release : (value : T) (answer : Released T C) → Event T C
 
--- the call leads from one mutex to another
+-- The call leads from one mutex to another.
 abbrev pub Does : {T C : Type 0} → Possession T C → Event T C → Possession T C → Type 0
 Does before (Acquire c answer) after = Acquires before c answer after
 Does before (Release value answer) after = Releases before value answer after
@@ -22,7 +22,7 @@ pub data Runs (T C : Type 0) : Possession T C → List (Event T C) → Possessio
   Goes : (before next after : Possession T C) (event : Event T C) (events : List (Event T C)) →
       Does before event next → Runs T C next events after → Runs T C before (event ∷ events) after
 
--- the contexts that wait at a mutex
+-- The contexts that wait at a mutex.
 abbrev pub waiting_at : {T C : Type 0} → Possession T C → List C
 waiting_at (Free value) = []
 waiting_at (Held waiting) = waiting
@@ -44,7 +44,7 @@ abbrev pub kept_in : {T C : Type 0} → List (Event T C) → List C
 kept_in [] = []
 kept_in (event ∷ events) = kept_by event ++ kept_in events
 
--- the contexts that the calls of a run hand the value to, in order
+-- The contexts that the calls of a run hand the value to, in order.
 abbrev pub handed_in : {T C : Type 0} → List (Event T C) → List C
 handed_in [] = []
 handed_in (event ∷ events) = handed_by event ++ handed_in events

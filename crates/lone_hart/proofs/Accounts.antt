@@ -13,7 +13,7 @@ use Rattle.sched_api.specs.Wishes.{WishList}
 use Rattle.sched_api.specs.Agenda.{AgendaParts, TakesNext}
 use Rattle.lone_hart.specs.Accounts.{Stands, AllCameBack, AllButOneCameBack}
 
--- different jobs begin as different contexts
+-- Different jobs begin as different contexts.
 abbrev pub IsOneToOne : {C : Type 0} → (JobParts → C) → Type 0
 IsOneToOne begin = (a b : JobParts) → begin a ≡ begin b → a ≡ b
 

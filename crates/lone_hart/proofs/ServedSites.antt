@@ -56,7 +56,7 @@ pool_ended nested pool p around start es well over plan (inl failed) = absurd (w
 pub team_ended : (t : teams.TeamParts) (p : Plan) (around : ℕ) (start es : List Entry) → t.failed ≡ false → teams.IsOver t → IsPlan p → serves_team t p around start es → HaveEnded p around es
 team_ended t p around start es well over plan serves = served_have_ended p around start es (nested_of t.nested) plan (team_ends p around start es t serves well over)
 
--- with the Unregister the construct was run
+-- With the Unregister the construct was run.
 abbrev Runs : NestedParts → Plan → List Entry → List Entry → ℕ → Type 0
 Runs nested p before es hart = is_run p before (es ++ Unregister hart nested.site ∷ []) nested
 

@@ -24,11 +24,11 @@ construct_in (Base base) = None
 construct_in (Pool nested p) = Some nested
 construct_in (Team t) = Some t.nested
 
--- the number of wishes that the sites inside a construct can have: fifteen each, and at most those of a plan's sites
+-- The number of wishes that the sites inside a construct can have: fifteen each, and at most those of a plan's sites.
 abbrev pub wishes_inside : NestedParts → ℕ
 wishes_inside nested = min (15 * (statement_sites_in (statement_of nested.construct) - 1)) MOST_WISHES
 
--- the number of jobs that a team still hands out, with those of the later phases
+-- The number of jobs that a team still hands out, with those of the later phases.
 abbrev pub team_jobs_left : TeamParts → ℕ
 team_jobs_left t = length t.agenda.unbegun + (phases_in t.nested - suc t.opened)
     * members_in t.nested

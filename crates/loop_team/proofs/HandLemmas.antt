@@ -45,7 +45,7 @@ grown xs ys zs one two first second = second ∙ ap (λ l. l ++ two) first ∙ a
 grown_last : {X : Type 0} → (xs ys zs one two : List X) (x : X) → ys ≡ xs ++ one → zs ≡ (ys ++ two) ++ x ∷ [] → zs ≡ (xs ++ (one ++ two)) ++ x ∷ []
 grown_last xs ys zs one two x first second = second ∙ ap (λ l. l ++ x ∷ []) (grown xs ys (ys ++ two) one two first refl)
 
--- the last read of a claim that found no member left
+-- The last read of a claim that found no member left.
 abbrev ReadLast : ℕ → ℕ → ℕ → List Look → List Look → Type 0
 ReadLast row count shown before after = (after ≡ before ++ look row kind.Look shown ∷ [])
     ⊎ ((n : ℕ) × (n < count) × (after ≡ before ++ look row kind.Look n ∷ look row kind.Draw shown ∷ []))

@@ -25,13 +25,13 @@ use Rattle.loop_team.specs.declared.work.TeamWork.TheVariants.{Begin}
 
 -- The parts of a team that contracts see.
 pub record TeamParts : Type 0 where
-  -- its construct, with the variables and the store before it
+  -- Its construct, with the variables and the store before it.
   pub nested : NestedParts
-  -- its lists for harts
+  -- Its lists for harts.
   pub agenda : AgendaParts TeamWork
-  -- the number of phases that have opened
+  -- The number of phases that have opened.
   pub opened : ℕ
-  -- the slots of the current phase, or of the last one
+  -- The slots of the current phase, or of the last one.
   pub barrier : BookParts
   pub failed : Bool
 

@@ -9,38 +9,38 @@ use Rattle.outside_io.specs.declared.source.Fill.TheVariants as fill
 use Rattle.outside_io.specs.declared.sink.Put.{Put}
 use Rattle.outside_io.specs.declared.sink.Put.TheVariants as put
 
--- one more, up to the last value of a count
+-- One more, up to the last value of a count.
 abbrev pub risen : ℕ → ℕ
 risen count = min (count + 1) (2 ^ 64 - 1)
 
--- the call's number is listed
+-- The call's number is listed.
 abbrev pub is_listed : List ℕ → ℕ → Bool
 is_listed failing call = list_any (λ listed. listed == call) failing
 
--- the result of a call of the source with a buffer of this size: a failure at a listed call; else the end if no byte is left,
--- and otherwise the least of what a call gives at most, the buffer's length and the number of bytes left
+-- The result of a call of the source with a buffer of this size: a failure at a listed call; else the end if no byte is left,
+-- and otherwise the least of what a call gives at most, the buffer's length and the number of bytes left.
 abbrev pub feed_fill : Feed → ℕ → Fill
 feed_fill feed size = if is_listed feed.failing (risen feed.calls) then fill.Failed
     else sure_fill feed.left (min feed.most size)
 
--- the source after a call with this result
+-- The source after a call with this result.
 abbrev pub fed : Feed → Fill → Feed
 fed feed (fill.Got count) = record feed { left = drop count feed.left; calls = risen feed.calls }
 fed feed fill.End = record feed { calls = risen feed.calls }
 fed feed fill.Failed = record feed { calls = risen feed.calls; faults = risen feed.faults }
 
--- a fault where no room is left, and otherwise so many bytes as are offered or as there is room for
+-- A fault where no room is left, and otherwise so many bytes as are offered or as there is room for.
 abbrev pub put_within : ℕ → ℕ → Put
 put_within offered room = if room == 0 then put.Failed else put.Took (min offered room)
 
--- the result of a call of the sink with so many bytes: a failure at a listed call and if no room is left; otherwise it takes
--- the least of what a call takes at most, the number of bytes and the room left
+-- The result of a call of the sink with so many bytes: a failure at a listed call and if no room is left; otherwise it takes
+-- the least of what a call takes at most, the number of bytes and the room left.
 abbrev pub tray_put : Tray → ℕ → Put
 tray_put tray size =
     if is_listed tray.failing (risen tray.calls) then put.Failed
     else put_within (min tray.most size) (tray.room - length tray.taken)
 
--- the sink after a call with these bytes and this result
+-- The sink after a call with these bytes and this result.
 abbrev pub laid_in : Tray → List ℕ → Put → Tray
 laid_in tray piece (put.Took count) = record tray {
   taken = tray.taken ++ take count piece;
@@ -48,7 +48,7 @@ laid_in tray piece (put.Took count) = record tray {
 }
 laid_in tray piece put.Failed = record tray { calls = risen tray.calls; faults = risen tray.faults }
 
--- a source of these bytes, and a sink with this room, that were never called
+-- A source of these bytes, and a sink with this room, that were never called.
 abbrev pub new_feed : List ℕ → ℕ → List ℕ → Feed
 new_feed bytes most failing = record {
   left = bytes;
@@ -58,7 +58,7 @@ new_feed bytes most failing = record {
   faults = 0;
 }
 
--- a sink with this room that was never called
+-- A sink with this room that was never called.
 abbrev pub new_tray : ℕ → ℕ → List ℕ → Tray
 new_tray room most failing = record {
   taken = [];

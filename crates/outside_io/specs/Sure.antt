@@ -4,21 +4,21 @@ use Rattle.outside_io.specs.Shelf.{Shelf}
 use Rattle.outside_io.specs.declared.source.Fill.{Fill}
 use Rattle.outside_io.specs.declared.source.Fill.TheVariants as fill
 
--- as many bytes as fit, and the end where none is left
+-- As many bytes as fit, and the end where none is left.
 abbrev pub sure_fill : List ℕ → ℕ → Fill
 sure_fill [] size = fill.End
 sure_fill (byte ∷ bytes) size = fill.Got (min (length (byte ∷ bytes)) size)
 
--- a sink with this room that has taken nothing
+-- A sink with this room that has taken nothing.
 abbrev pub empty_shelf : ℕ → Shelf
 empty_shelf room = record { room = room; taken = Some [] }
 
--- a piece is kept if it fits the room; if not, the sink shows nothing from then on
+-- A piece is kept if it fits the room; if not, the sink shows nothing from then on.
 abbrev pub kept_within : ℕ → Option (List ℕ) → List ℕ → Option (List ℕ)
 kept_within room None piece = None
 kept_within room (Some taken) piece =
     if nat_le (length taken + length piece) room then Some (taken ++ piece) else None
 
--- the sink after a piece was written
+-- The sink after a piece was written.
 abbrev pub laid_up : Shelf → List ℕ → Shelf
 laid_up shelf piece = record { room = shelf.room; taken = kept_within shelf.room shelf.taken piece }

@@ -1,15 +1,15 @@
 -- What contracts see of a sink in memory that fails at listed calls and where it is full.
 use Rattle.std.specs.Prelude.{ℕ, List}
 
--- a sink in memory that fails at listed calls and when it is full
+-- A sink in memory that fails at listed calls and when it is full.
 pub record Tray : Type 0 where
-  -- the bytes that it has taken, and how many it takes in all
+  -- The bytes that it has taken, and how many it takes in all.
   pub taken : List ℕ
   pub room : ℕ
-  -- how many bytes a call takes at most
+  -- How many bytes a call takes at most.
   pub most : ℕ
-  -- the numbers of the calls that fail, counted from 1
+  -- The numbers of the calls that fail, counted from 1.
   pub failing : List ℕ
-  -- how often it was called, and how often it has failed
+  -- How often it was called, and how often it has failed.
   pub calls : ℕ
   pub faults : ℕ

@@ -130,7 +130,7 @@ first_of name value second other e f =
     subst (λ (n : List ℕ). values_in ((n, value) ∷ (second, other) ∷ []) ≡ Some (other, Some value)) (sym e)
     (subst (λ (m : List ℕ). values_in ((codes "of", value) ∷ (m, other) ∷ []) ≡ Some (other, Some value)) (sym f) refl)
 
--- the tests of two options, by whether the first is `harts`, the second is, the first is `of`, and the second is
+-- The tests of two options, by whether the first is `harts`, the second is, the first is `of`, and the second is.
 tests : Bool → Bool → Bool → Bool → Bool
 tests a b c d =
     ((cond a (1 + cond b (1 + 0) 0) (cond b (1 + 0) 0) == 1) && true) && ((a || false) && ((b || false) && true))
@@ -197,7 +197,7 @@ none_first : (words : List (List ℕ)) → 0 < length words → first_option wor
 none_first [] some e = absurd (omega (arith, some))
 none_first (word ∷ more) some e = uncut (long_of word) more e
 
--- options of words are at least one where there is a word
+-- Options of words are at least one where there is a word.
 behind_some : (option : Given) (rest : Option (List Given)) (options : List Given) → with_option option rest ≡ Some options → 0 < length options
 behind_some option None options e = cc e
 behind_some option (Some more) options e = subst (λ (o : List Given). 0 < length o) (same_Some (option ∷ more) options e) (omega arith)

@@ -19,7 +19,7 @@ use Rattle.picture_call.specs.declared.runner.Runner.TheVariants.{Run, Tally, Pi
 use Rattle.picture_call.specs.Causes.{AreNoText, AreRefused, HasNoText, HasRefused, IsLong}
 use Rattle.picture_call.specs.Pictures.{AreDrawn, AreJudged, HasPicture, IsJudged, SpellRun, command_of, teams_of}
 
--- what goes on from a verdict and keeps it comes of that verdict
+-- What goes on from a verdict and keeps it comes of that verdict.
 kept : (f : Verdict → Pictured) (picture : Pictured) (found : Result Verdict TextFault) → ((v : Verdict) → (f v).verdict ≡ v)
     → and_then (λ v. Ok (f v)) found ≡ Ok picture → found ≡ Ok picture.verdict
 kept f picture (Ok v) keeps e = let same : f v ≡ picture = cc e in ap Ok (sym (keeps v) ∙ ap (λ (p : Pictured). p.verdict) same)
@@ -38,7 +38,7 @@ pub drawn_judged : (form : Form) (runner : Runner) (harts : ℕ) (bytes : List �
 drawn_judged form runner harts bytes picture has =
     record { first = has.first; second = has.second; parts = has.parts; are = is_judged form runner harts picture has.first has.second has.are }
 
--- its status is one of these
+-- Its status is one of these.
 pub written : (found : Verdict) (s : Status) → status_by found ≡ s → (s ≡ status.Done) ⊎ (s ≡ status.Illegal)
 written (verdict.Legal entries) s e = inl (sym e)
 written (verdict.Differs line) s e = inr (sym e)

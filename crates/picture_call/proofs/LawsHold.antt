@@ -22,7 +22,7 @@ use Rattle.picture_call.specs.Causes.{AreNoText}
 use Rattle.picture_call.specs.Laws.{OutputsAreLegal, RunsEndAsAudits, RunsFailAsAudits}
 use Rattle.picture_call.specs.Pictures.{AreJudged, IsRunBy, SpellRun}
 
--- what is so of all parts is so of those of the bytes
+-- What is so of all parts is so of those of the bytes.
 pub parts_so : (P Q : List ℕ → List ℕ → Type 0) (bytes : List ℕ) → ((first second : List ℕ) → P first second → Q first second) → HasParts P bytes → HasParts Q bytes
 parts_so P Q bytes so has = record { first = has.first; second = has.second; parts = has.parts; are = so has.first has.second has.are }
 

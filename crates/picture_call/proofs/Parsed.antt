@@ -15,7 +15,7 @@ use Rattle.picture_call.specs.Causes.{IsUnparsed}
 use Rattle.picture_call.specs.Options.{values_in, values_of}
 use Rattle.picture_call.specs.Words.{form_named, has_picture_options, parsed_run, run_behind, run_given, runner_named}
 
--- the number of harts that `run` reads
+-- The number of harts that `run` reads.
 by_number : (found : Option ℕ) (c : Command) → option_map command.Run found ≡ Some c → found ≡ Some (harts_in c)
 by_number None c e = cc e
 by_number (Some k) c e = ap (λ (made : Command). Some (harts_in made)) (same_Some (command.Run k) c e)
@@ -30,7 +30,7 @@ no_number (Some k) e = cc e
 pub run_no_number : (value : List ℕ) → form_of (codes "run" ∷ codes "--harts" ∷ value ∷ []) ≡ None → number_in 1 16 value ≡ None
 run_no_number value e = no_number (number_in 1 16 value) e
 
--- the command and the number that two values give
+-- The command and the number that two values give.
 abbrev pub run_by : Option Runner → Option ℕ → Option (Runner × ℕ)
 run_by runner number = option_and_then (λ r. option_map (λ harts. (r, harts)) number) runner
 
@@ -86,7 +86,7 @@ module _ (word : List ℕ) (options : List (List ℕ)) where
       all_given runner c is e =
           by_values ∙ ap (λ (r : Option Runner). run_by r (number_in 1 16 value)) is ∙ ap (λ (n : Option ℕ). run_by (Some runner) n) (run_number value c e)
 
--- words that `run` doesn't read are no form
+-- Words that `run` doesn't read are no form.
 pub unparsed : (words run : List (List ℕ)) (why : Fault) → IsNoCommand run why → (form_of run ≡ None → parsed_run words ≡ None) → IsUnparsed words why
 unparsed words run fault.Usage h none = none h
 unparsed words run fault.TooLong h none = absurd h

@@ -31,7 +31,7 @@ use Rattle.picture_call.specs.declared.runner.Runner.TheVariants.{Run, Tally, Pi
 use Rattle.picture_call.specs.Causes.{AreRefused, HaveNoPicture, ReportsNoOutput, ReportsNoPicture}
 use Rattle.picture_call.specs.Pictures.{AreDrawn, IsRunBy, teams_of}
 
--- a text that spells no program has no picture
+-- A text that spells no program has no picture.
 pub no_run_no_picture : (runner : Runner) (harts : ℕ) (first second : List ℕ) (why : Fault) → IsNoRun (λ bytes line. AreRefused runner harts line bytes second) first why
     → HaveNoPicture runner harts first second why
 no_run_no_picture runner harts first second fault.Usage h = h
@@ -41,7 +41,7 @@ no_run_no_picture runner harts first second (fault.Syntax line) h = inl h
 no_run_no_picture runner harts first second (fault.Refused line) h = h
 no_run_no_picture runner harts first second fault.Memory h = tt
 
--- what is so of the program is so of the bytes that spell it
+-- What is so of the program is so of the bytes that spell it.
 pub program_no_picture : (runner : Runner) (harts : ℕ) (first second : List ℕ) (program : ProgramTree) (why : Fault) → length first ≤ 65536 → Spells first program
     → ReportsNoPicture runner harts program second why → HaveNoPicture runner harts first second why
 program_no_picture runner harts first second program fault.Usage short spelled reported = absurd reported
@@ -60,7 +60,7 @@ program_no_picture Tally harts first second program (fault.Refused line) short s
 program_no_picture Pipe harts first second program (fault.Refused line) short spelled reported = unpiped_line harts first program (fault.Refused line) short spelled reported
 program_no_picture runner harts first second program fault.Memory short spelled reported = tt
 
--- the check refuses the program to `run`
+-- The check refuses the program to `run`.
 pub check_no_picture : (harts : ℕ) (program : ProgramTree) (output : List ℕ) (cause : CheckFault) (why : Fault) → PrintsRefusal program cause why
     → (cause ≡ check.Memory) ⊎ (check_fault_of program harts ≡ Some cause) → ReportsNoPicture Run harts program output why
 check_no_picture harts program output cause fault.Usage reported first = absurd reported
@@ -73,7 +73,7 @@ check_no_picture harts program output cause (fault.Refused line) reported first 
 ]
 check_no_picture harts program output cause fault.Memory reported first = tt
 
--- it is refused to `tally`, or to `pipe`
+-- It is refused to `tally`, or to `pipe`.
 pub tally_no_picture : (harts : ℕ) (program : ProgramTree) (output : List ℕ) (why : Fault) → PrintsUntallied harts program why → ReportsNoPicture Tally harts program output why
 tally_no_picture harts program output fault.Usage reported = absurd reported
 tally_no_picture harts program output fault.TooLong reported = absurd reported
@@ -90,7 +90,7 @@ pipe_no_picture harts program output (fault.Syntax line) reported = absurd repor
 pipe_no_picture harts program output (fault.Refused line) reported = reported
 pipe_no_picture harts program output fault.Memory reported = tt
 
--- the output is refused by the program's plan
+-- The output is refused by the program's plan.
 output_no_picture : (runner : Runner) (harts : ℕ) (program : ProgramTree) (output : List ℕ) (why : Fault) → IsRunBy runner harts program
     → ReportsNoOutput (table_plan program harts) program output why → ReportsNoPicture runner harts program output why
 output_no_picture runner harts program output fault.Usage run reported = absurd reported
@@ -119,7 +119,7 @@ pub plan_runs : {X : Type 0} (result : Result X Fault) (runner : Runner) (harts 
 plan_runs (Ok x) runner harts program is = is
 plan_runs (Err why) runner harts program is = tt
 
--- a fault of the output's text
+-- A fault of the output's text.
 pub text_no_output : (plan : Plan) (program : ProgramTree) (output : List ℕ) (cause : TextFault) (why : Fault) → PrintsText cause why
     → ((cause ≡ text.Memory → ⊥) → audit_of plan (entered_of program) (array_text program (final_store program)) output ≡ Err cause) → ReportsNoOutput plan program output why
 text_no_output plan program output cause fault.Usage reported found = absurd reported
@@ -129,7 +129,7 @@ text_no_output plan program output cause (fault.Syntax line) reported found = re
 text_no_output plan program output cause (fault.Refused line) reported found = absurd reported
 text_no_output plan program output cause fault.Memory reported found = tt
 
--- what reading found, if no allocation failed
+-- What reading found, if no allocation failed.
 pub read_found : {A B : Type 0} (same : A → B) (wanted : Result B TextFault) (cause : TextFault) → Reads same wanted (Err cause) → (cause ≡ text.Memory → ⊥) → wanted ≡ Err cause
 read_found same wanted (text.BadLine line) reads real = reads
 read_found same wanted (text.BadNumber line) reads real = reads

@@ -71,7 +71,7 @@ why_written words (fault.Syntax line) left left' taken faults faults' printed ta
 why_written words (fault.Refused line) left left' taken faults faults' printed taken' printed' is appended = record { text = line.items; right = is; prints = appended }
 why_written words fault.Memory left left' taken faults faults' printed taken' printed' is appended = record { text = fault_text fault.Memory; right = refl; prints = appended }
 
--- with a fault nothing was written
+-- With a fault nothing was written.
 unwritten : (why : Fault) → (status_of why ≢ status.Done) × (status_of why ≢ status.Illegal) × (status_of why ≢ status.WriteFault)
 unwritten fault.Usage = (λ e. cc e, λ e. cc e, λ e. cc e)
 unwritten fault.TooLong = (λ e. cc e, λ e. cc e, λ e. cc e)
@@ -80,7 +80,7 @@ unwritten (fault.Syntax line) = (λ e. cc e, λ e. cc e, λ e. cc e)
 unwritten (fault.Refused line) = (λ e. cc e, λ e. cc e, λ e. cc e)
 unwritten fault.Memory = (λ e. cc e, λ e. cc e, λ e. cc e)
 
--- words that are no form request nothing
+-- Words that are no form request nothing.
 formless : {X : Type 0} (words : List (List ℕ)) (run : Runner × ℕ) → parsed_run words ≡ Some run → parsed_run words ≡ None → X
 formless words run is none = let bad : Some run ≡ None = sym is ∙ none in cc bad
 
@@ -124,7 +124,7 @@ read_fault_printed words fault.Memory left left' faults faults' h e = cc e
 -- ---- an input with a verdict has no other fault than an allocation failure, while the source doesn't fail
 module _ (words : List (List ℕ)) (runner : Runner) (harts : ℕ) (parsed : parsed_run words ≡ Some (runner, harts))
     (bytes : List ℕ) (left left' : Option (List ℕ)) (input : left ≡ Some bytes) (ended : Status) (ends : EndsAs runner harts bytes ended) where
-  -- what the words request, and what was read, are the same
+  -- What the words request, and what was read, are the same.
   same_run : (other : Runner) (count : ℕ) → parsed_run words ≡ Some (other, count) → (other ≡ runner) × (count ≡ harts)
   same_run other count is =
       let same : (other, count) ≡ (runner, harts) = same_Some (other, count) (runner, harts) (sym is ∙ parsed) in
@@ -151,7 +151,7 @@ module _ (words : List (List ℕ)) (runner : Runner) (harts : ℕ) (parsed : par
       absurd (refused_judged runner harts bytes line.items ends.1.0 (same_input (λ r n b. HasRefused r n b line.items) h.runner h.harts h.bytes h.parsed h.given h.is) ends.1.1)
   only_memory fault.Memory faults faults' h calm = inr refl
 
-  -- and a picture of it has its verdict's status
+  -- And a picture of it has its verdict's status.
   drawn_ends : (s : Status) (text : List ℕ) → IsPictureFor words left left' s text → s ≡ ended
   drawn_ends s text picture =
       let read = drawn_judged picture.form picture.runner picture.harts picture.bytes picture.picture picture.has in

@@ -12,7 +12,7 @@ pub turns_none : (n : ℕ) → turns_of n [] ≡ []
 turns_none zero = refl
 turns_none (suc n) = turns_none n
 
--- nothing, so many times, adds nothing
+-- Nothing, so many times, adds nothing.
 pub none_added : (n : ℕ) (old once : List Shape) → once ≡ [] → old ≡ old ++ turns_of n once
 none_added n old once e = sym (ap (λ xs. old ++ turns_of n xs) e ∙ ap (λ xs. old ++ xs) (turns_none n) ∙ append-nil old)
 
@@ -45,6 +45,6 @@ mutual
       length-append (turns_of n (sequence_shapes teams first)) (phases_shapes teams rest n)
       ∙ grind (arith, turns_length n (sites_in first) (sequence_shapes teams first) (sequence_count teams first), phases_count teams rest n)
 
--- a program has a shape for each site of its plan
+-- A program has a shape for each site of its plan.
 pub shape_count : (teams : Kind) (program : ProgramTree) → length (shapes_of teams program) ≡ length (plan_of program)
 shape_count teams program = sequence_count teams program.body ∙ sym (sequence_length program.body 0 1)

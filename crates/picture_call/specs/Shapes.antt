@@ -7,7 +7,7 @@ use Rattle.journal_picture.specs.declared.shape.Kind.{Kind}
 use Rattle.journal_picture.specs.declared.shape.Shape.{Shape}
 use Rattle.journal_picture.specs.Kinds.{pool}
 
--- those of so many turns
+-- The shapes of n turns, each of which has the shapes of the body.
 abbrev pub turns_of : ℕ → List Shape → List Shape
 turns_of zero body = []
 turns_of (suc n) body = body ++ turns_of n body
@@ -20,8 +20,9 @@ par_shape line = record { kind = pool; phased = false; line = line }
 abbrev pub team_shape : Kind → ℕ → Shape
 team_shape teams line = record { kind = teams; phased = true; line = line }
 
--- A construct comes before those inside it.
+-- A construct comes before the constructs inside it.
 abbrev mutual
+  -- The shapes of the sites of a statement.
   pub statement_shapes : Kind → Statement → List Shape
   statement_shapes teams (Assign line array index value) = []
   statement_shapes teams (For line var low high body) = turns_of (span low high) (sequence_shapes teams body)
@@ -31,19 +32,22 @@ abbrev mutual
   statement_shapes teams (Team line var low high members phases) =
       team_shape teams line ∷ phases_shapes teams phases (span low high)
 
+  -- The shapes of the sites of a sequence.
   pub sequence_shapes : Kind → Sequence → List Shape
   sequence_shapes teams ended = []
   sequence_shapes teams (followed first rest) = statement_shapes teams first ++ sequence_shapes teams rest
 
+  -- The shapes of the sites of branches.
   pub branches_shapes : Kind → Sequences → List Shape
   branches_shapes teams no_more = []
   branches_shapes teams (beside first rest) = sequence_shapes teams first ++ branches_shapes teams rest
 
-  -- each phase has so many iterations
+  -- The shapes of the sites of phases, each of which has so many iterations.
   pub phases_shapes : Kind → Sequences → ℕ → List Shape
   phases_shapes teams no_more iterations = []
   phases_shapes teams (beside first rest) iterations =
       turns_of iterations (sequence_shapes teams first) ++ phases_shapes teams rest iterations
 
+-- The shapes of a program's sites.
 abbrev pub shapes_of : Kind → ProgramTree → List Shape
 shapes_of teams program = sequence_shapes teams program.body

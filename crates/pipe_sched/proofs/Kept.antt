@@ -18,7 +18,7 @@ use Rattle.pipe_sched.specs.Inside.{mark_of, failed_slot, IsRight, AreInOrder, I
 use Rattle.pipe_sched.proofs.Places.{filled_up_to, it_follows}
 use Rattle.pipe_sched.proofs.Changes.{changed_back, changed_at, changed_length, changed_map}
 
--- the model of a pipeline, by its construct and slots
+-- The model of a pipeline, by its construct and slots.
 abbrev pub pipe_model : NestedParts → List Slot → PipeParts
 pipe_model nested slots = record { nested = nested; marks = map mark_of slots }
 

@@ -55,7 +55,7 @@ read_within slots i mark e = let less = slice_get_within (map mark_of slots) i m
 
 -- ---- the pieces that come before
 
--- a piece and all pieces before it are filled
+-- A piece and all pieces before it are filled.
 pub filled_up_to : (n : ℕ) (marks : List Mark) (j k : ℕ) → AreInOrder n marks → IsAt n marks j k Filled →
     (i h : ℕ) → i ≤ j → h ≤ k → IsAt n marks i h Filled
 filled_up_to n marks j k order here i h le_i le_h = pick (cases_eq i j) (cases_eq h k)

@@ -183,7 +183,7 @@ member_within j n k m less = by_order (cases_lt j m)
     by_order (inl lt) = lt
     by_order (inr le) = let whole = mul-le m n j n le (omega arith) in absurd (omega (arith, whole, less))
 
--- there is room for a ready piece
+-- There is room for a ready piece.
 pub record HasRoom (nested : NestedParts) (slots : List Slot) (j k : ℕ) : Type 0 where
   pub member : j < members_in nested
   pub phase : k < phases_in nested

@@ -74,7 +74,7 @@ rows_whole m (row ∷ rows) each =
     ap (λ r. r ∷ map (take m) rows) (take_whole m row (each 0 (omega arith)))
     ∙ ap (λ l. row ∷ l) (rows_whole m rows (λ k less. each (suc k) (omega arith)))
 
--- all members of all phases
+-- All members of all phases.
 pub whole_rows : (nested : NestedTree) → map (take (members_of nested.construct)) (take (phases_of nested.construct) (piped_writes nested)) ≡ piped_writes nested
 whole_rows nested =
     let rounds = rounds_of nested.construct nested.vars in

@@ -21,12 +21,12 @@ anywhere zero x i = refl
 anywhere (suc n) x zero = refl
 anywhere (suc n) x (suc i) = anywhere n x i
 
--- a list that has the same at each index
+-- A list that has the same at each index.
 pub all_same : {A : Type 0} (xs : List A) (x : A) → ((i : ℕ) → slice_index_or xs i x ≡ x) → xs ≡ replicate (length xs) x
 all_same [] x h = refl
 all_same (y ∷ ys) x h = ap (λ z. z ∷ ys) (h 0) ∙ ap (λ zs. x ∷ zs) (all_same ys x (λ i. h (suc i)))
 
--- what holds of the new item and of the old one
+-- What holds of the new item and of the old one.
 set_keeps : {A : Type 0} (P : A → Type 0) (xs : List A) (i j : ℕ) (x d : A) → P x → P (slice_index_or xs j d) → P (slice_index_or (slice_set xs i x) j d)
 set_keeps P [] i j x d new old = old
 set_keeps P (y ∷ ys) zero zero x d new old = new
@@ -34,13 +34,13 @@ set_keeps P (y ∷ ys) zero (suc j) x d new old = old
 set_keeps P (y ∷ ys) (suc i) zero x d new old = old
 set_keeps P (y ∷ ys) (suc i) (suc j) x d new old = set_keeps P ys i j x d new old
 
--- an item that also stands for those after the end
+-- An item that also stands for those after the end.
 set_blank : {A : Type 0} (xs : List A) (i : ℕ) (d : A) → slice_index_or (slice_set xs i d) i d ≡ d
 set_blank [] i d = refl
 set_blank (y ∷ ys) zero d = refl
 set_blank (y ∷ ys) (suc i) d = set_blank ys i d
 
--- after the end nothing is set
+-- After the end nothing is set.
 set_after : {A : Type 0} (xs : List A) (i : ℕ) (x : A) → length xs ≤ i → slice_set xs i x ≡ xs
 set_after [] i x h = refl
 set_after (y ∷ ys) zero x h = absurd (omega arith)
@@ -48,7 +48,7 @@ set_after (y ∷ ys) (suc i) x h = ap (λ zs. y ∷ zs) (set_after ys i x (omega
 
 -- ---- the list of touched cells
 
--- a cell outside a longer list
+-- A cell outside a longer list.
 listed_first : (first : ℕ) (more : List ℕ) (cell : ℕ) → is_listed (first ∷ more) cell ≡ false → (is_listed more cell ≡ false) × (cell ≡ first → ⊥)
 listed_first first more cell e = cases (nat_eq first cell) refl e
   where
@@ -66,7 +66,7 @@ listed_last (first ∷ more) last cell e = cases (nat_eq first cell) e (λ f. li
     cases true f rest = absurd (false≢true (sym f))
     cases false f rest = rest f
 
--- outside what is left after an item, but for the item
+-- Outside what is left after an item, but for the item.
 left_but_one : (listed : List ℕ) (i d cell : ℕ) → i < length listed → is_listed (drop (i + 1) listed) cell ≡ false → (cell ≡ get_or listed i d → ⊥) → is_listed (drop i listed) cell ≡ false
 left_but_one listed i d cell small e other =
     ap (λ left. is_listed left cell) (drop-cons listed i d small)
@@ -108,7 +108,7 @@ or_none : (b : Bool) → (b || (false || false)) ≡ b
 or_none true = refl
 or_none false = refl
 
--- a phase without a touch
+-- A phase without a touch.
 pub passed_none : (p : Past) → passed p untouched ≡ p
 passed_none p =
     ap (λ n. past_of n (max p.changer 0) (p.crossed || (false || false))) (max_none p.toucher)
@@ -120,14 +120,14 @@ passed_none p =
 
 -- ---- the cells
 
--- what is known of new cells
+-- What is known of new cells.
 pub cells_new : (n : ℕ) → AreCells (record { touches = replicate n untouched; past = replicate n no_past; listed = []; crossed = false })
 cells_new n = record {
   size = length-replicate n untouched ∙ sym (length-replicate n no_past);
   noted = λ clear cell. ap (λ (p : Past). p.crossed) (anywhere n no_past cell);
 }
 
--- of all cells that were cleared
+-- Of all cells that were cleared.
 pub cells_cleared : (c : CellParts) → AreCells c → AreCells (blank_cells c)
 cells_cleared c is = record {
   size = length-replicate (length c.touches) untouched ∙ is.size ∙ sym (length-replicate (length c.past) no_past);
@@ -138,7 +138,7 @@ or_parts : (a b : Bool) → (a || b) ≡ false → (a ≡ false) × (b ≡ false
 or_parts true b e = absurd (false≢true (sym e))
 or_parts false b e = (refl, e)
 
--- and of cells where one has another past
+-- And of cells where one has another past.
 pub cells_passed : (c : CellParts) (i : ℕ) (p : Past) → AreCells c → AreCells (record c { past = slice_set c.past i p; crossed = c.crossed || p.crossed })
 cells_passed c i p is = record {
   size = is.size ∙ sym (length-set c.past i p);
@@ -146,15 +146,15 @@ cells_passed c i p is = record {
       set_keeps (λ (q : Past). q.crossed ≡ false) c.past i cell p no_past both.1 (is.noted both.0 cell);
 }
 
--- of cells where one has another touch
+-- Of cells where one has another touch.
 pub cells_touched : (c : CellParts) (i : ℕ) (t : Touch) (listed : List ℕ) → AreCells c → AreCells (record c { touches = slice_set c.touches i t; listed = listed })
 cells_touched c i t listed is = record { size = length-set c.touches i t ∙ is.size; noted = is.noted }
 
--- of cells without a touch
+-- Of cells without a touch.
 pub cells_untouched : (c : CellParts) → AreCells c → AreCells (record c { touches = replicate (length c.touches) untouched })
 cells_untouched c is = record { size = length-replicate (length c.touches) untouched ∙ is.size; noted = is.noted }
 
--- and of cells where one has no past
+-- And of cells where one has no past.
 pub cells_fresh : (c : CellParts) (i j : ℕ) (t : Touch) → AreCells c → AreCells (record c { touches = slice_set c.touches j t; past = slice_set c.past i no_past })
 cells_fresh c i j t is = record {
   size = length-set c.touches j t ∙ is.size ∙ sym (length-set c.past i no_past);
@@ -163,13 +163,13 @@ cells_fresh c i j t is = record {
 
 -- ---- one more touch
 
--- of a cell that has one
+-- Of a cell that has one.
 pub touch_again : (c : CellParts) (cell : ℕ) (more : Touch) → (touch_in c.touches cell ≡ untouched → ⊥) → AreListed c → AreListed (record c { touches = added cell more c.touches })
 touch_again c cell more has are k out = dite (ℕ_discrete k cell)
     (λ same. absurd (has (let P : ℕ → Type 0 = λ n. touch_in c.touches n ≡ untouched in subst P same (are k out).0)))
     (λ other. (get_or-set_other c.touches cell k (joined more (touch_in c.touches cell)) untouched other ∙ (are k out).0, (are k out).1))
 
--- of a cell that is listed now
+-- Of a cell that is listed now.
 pub touch_first : (c : CellParts) (cell : ℕ) (more : Touch) → AreListed c → AreListed (record c { touches = added cell more c.touches; listed = c.listed ++ cell ∷ [] })
 touch_first c cell more are k out =
     let before = listed_last c.listed cell k out in
@@ -196,7 +196,7 @@ joined_one c k = record {
   crossed = c.crossed || (passed (past_in c.past k) (touch_in c.touches k)).crossed;
 }
 
--- what is left to join stays the same, at the cell itself and at others
+-- What is left to join stays the same, at the cell itself and at others.
 joined_same : (c : CellParts) (k cell : ℕ) → length c.touches ≡ length c.past →
     passed (past_in (joined_one c k).past cell) (touch_in (joined_one c k).touches cell) ≡ passed (past_in c.past cell) (touch_in c.touches cell)
 joined_same c k cell size = dite (ℕ_discrete cell k)
@@ -333,7 +333,7 @@ new_listed n m unlisted no' = (λ cell out. (anywhere n untouched cell, anywhere
 pub blank_listed : (c : CellParts) (m : ℕ) (unlisted : Bool) → IsListedUnless unlisted (replicate m untouched) (blank_cells c)
 blank_listed c m unlisted no' = (λ cell out. (anywhere (length c.touches) untouched cell, anywhere (length c.past) no_past cell), λ number. anywhere m untouched number)
 
--- the parts of a table
+-- The parts of a table.
 abbrev pub table_of : CellParts → List Touch → List ℕ → TableParts
 table_of c everywhere owners = record { cells = c.touches; everywhere = everywhere; past = c.past; owners = owners }
 
@@ -348,7 +348,7 @@ table_settled before after everywhere owners touch same is = record {
   past = λ cell small. is.past cell small ∙ ap (passed (past_in before.past cell)) (same cell);
 }
 
--- where no array was touched everywhere
+-- Where no array was touched everywhere.
 pub touch_alone : (c : CellParts) (everywhere : List Touch) (owners : List ℕ) → ((number : ℕ) → touch_in everywhere number ≡ untouched) →
     (cell : ℕ) → touch_in c.touches cell ≡ touch_at (table_of c everywhere owners) cell
 touch_alone c everywhere owners none cell =

@@ -215,7 +215,7 @@ rounds_within arrays [] h j k piece cell at t = absurd (cc)
 rounds_within arrays (r ∷ rs) h j zero piece cell at t = piece_within arrays r j piece h.0 at cell t
 rounds_within arrays (r ∷ rs) h j (suc k) piece cell at t = rounds_within arrays rs h.1 j k piece cell at t
 
--- the first site with a crossing is on this line, and the cell is the least of its crossings
+-- The first site with a crossing is on this line, and the cell is the least of its crossings.
 record IsFirst (arrays : Arrays) (sites : List Site) (line cell : ℕ) : Type 0 where
   pub number : ℕ
   pub site : Site
@@ -225,7 +225,7 @@ record IsFirst (arrays : Arrays) (sites : List Site) (line cell : ℕ) : Type 0 
   pub least : (c : ℕ) → c < cell → ¬ IsCrossing arrays site.rounds c
   pub earlier : (i : ℕ) (s : Site) → i < number → slice_get sites i ≡ Some s → HasNoCrossing arrays s.rounds
 
--- the result for these sites
+-- The result for these sites.
 abbrev IsNoted : Arrays → List Site → Option PipeFault → Type 0
 IsNoted arrays sites None = (i : ℕ) (s : Site) → slice_get sites i ≡ Some s → HasNoCrossing arrays s.rounds
 IsNoted arrays sites (Some (Crossing line cell)) = IsFirst arrays sites line cell

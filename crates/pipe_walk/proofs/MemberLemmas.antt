@@ -31,7 +31,7 @@ members_again NoMember b = refl
 members_again (Between f l) NoMember = both _ _ _ _ (omega arith) (omega arith)
 members_again (Between f l) (Between g m) = both _ _ _ _ (omega arith) (omega arith)
 
--- the set with a member, if there is one
+-- The set with a member, if there is one.
 abbrev pub member_if : Bool → ℕ → Members → Members
 member_if true j m = joined_members (Between j j) m
 member_if false j m = m

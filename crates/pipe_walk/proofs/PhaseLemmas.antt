@@ -26,7 +26,7 @@ use Rattle.pipe_walk.proofs.CellLemmas.{anywhere}
 
 -- ---- one phase
 
--- the marks of a cell by the pieces of a phase
+-- The marks of a cell by the pieces of a phase.
 abbrev pub touch_of : Arrays → ℕ → List Steps → Touch
 touch_of arrays cell round = noted (members_in (is_read arrays cell) 0 round NoMember) (members_in (is_changed arrays cell) 0 round NoMember)
 
@@ -56,7 +56,7 @@ passed_is arrays cell past round =
     (ap (λ b. b || starts_below past.changer touch.read) (below_is changed past.toucher round)
     ∙ ap (λ b. some_of changed (take past.toucher round) || b) (below_is read past.changer round))
 
--- whether pieces of the earlier phases crossed, or one of these phases crosses an earlier one
+-- Whether pieces of the earlier phases crossed, or one of these phases crosses an earlier one.
 abbrev pub crossed_left : Arrays → ℕ → Past → List (List Steps) → Bool
 crossed_left arrays cell past rounds = past.crossed || crosses arrays cell past.toucher past.changer rounds
 

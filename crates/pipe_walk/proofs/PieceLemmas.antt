@@ -47,7 +47,7 @@ set_by_test xs i j t true e h =
 set_by_test xs i j t false e h =
     get_or-set_other xs i j t untouched (λ same. false≢true (sym e ∙ let yes' : nat_eq j i ≡ true = grind (arith, nat_tests) in yes'))
 
--- the marks with more, if there is more
+-- The marks with more, if there is more.
 abbrev pub touch_if : Bool → Touch → Touch → Touch
 touch_if b more touch = cond b (joined more touch) touch
 
@@ -113,7 +113,7 @@ stays_for arrays j w name None t for_them =
 
 -- ---- a piece
 
--- the marks after a piece that changes the cell, or reads it, or neither
+-- The marks after a piece that changes the cell, or reads it, or neither.
 abbrev pub after_piece : ℕ → Bool → Bool → Touch → Touch
 after_piece j w r touch = noted (member_if r j touch.read) (member_if w j touch.changed)
 

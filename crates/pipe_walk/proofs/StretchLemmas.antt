@@ -73,7 +73,7 @@ member_at var low high m body j (suc k) vars (suc i) piece e =
 abbrev pub rounds_in : List Block → List ℕ → ℤ → ℤ → ℕ → Vars → List (List Steps)
 rounds_in bs var low high m vars = phase_rounds (sequences (map sequence_of bs)) var low high m vars
 
--- the piece of a member in a phase
+-- The piece of a member in a phase.
 pub piece_at : (bs : List Block) (var : List ℕ) (low high : ℤ) (m : ℕ) (vars : Vars) (d : Block) (j k : ℕ) (piece : Steps) → IsPiece (rounds_in bs var low high m vars) j k piece →
     (k < length bs) × (j < m) × (piece ≡ member_work var low high m (sequence_work (sequence_of (get_or bs k d))) j vars)
 piece_at [] var low high m vars d j k piece e = absurd (cc)

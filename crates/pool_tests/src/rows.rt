@@ -11,14 +11,14 @@ use std::alloc::Global;
 use std::sync::Wait;
 use std::test::Fail;
 
-// Pushes a code onto the hart's own deque, if it has room.
+// Pushes a job index onto the hart's own deque, if it has room.
 fn put<R>(hand: &mut PoolHand<'_, '_, '_, R>, code: u32) {
     if 0 < hand.rows.room(hand.level) {
         hand.rows.push(hand.level, code);
     }
 }
 
-// Pushes two codes onto the hart's own deque, if it has room.
+// Pushes two job indices onto the hart's own deque, if it has room.
 fn put_both<R>(hand: &mut PoolHand<'_, '_, '_, R>, first: u32, second: u32) {
     put(hand, first);
     put(hand, second);
@@ -27,13 +27,13 @@ fn put_both<R>(hand: &mut PoolHand<'_, '_, '_, R>, first: u32, second: u32) {
 // What a hart finds: the second piece, and then nothing.
 const LAST_PIECE: &[Answer] = &[Answer::Begins(1), Answer::Nothing];
 
-/// Whether codes of other jobs are dropped, and codes of jobs that are begun.
+/// Whether the hart drops indices of other jobs, and indices of jobs that are begun.
 pub fn lets_go<'a, R: Wait + 'a>(rt: &'a R, hand: &mut PoolHand<'a, '_, '_, R>) -> bool {
     let offered = is_offered(rt, hand);
-    // Why these codes: one is of site 5, the other of a piece that the pool doesn't have.
+    // Why these indices: one is of site 5, the other of a piece that the pool doesn't have.
     put_both(hand, 320, 66);
     let first = entered(hand, rt) == Answer::Begins(0);
-    // The codes of jobs that are begun.
+    // The indices of jobs that are begun.
     put_both(hand, 64, 64);
     let last = finds(hand, rt, LAST_PIECE);
     offered && first && last
@@ -45,7 +45,7 @@ fn a_code_of_no_job_of_the_pool_is_let_go(rt: HostRuntime) -> Result<(), Fail> {
     Ok(())
 }
 
-/// For a pool of two jobs that weren't offered: whether the first comes from under the lock, and the other by its code.
+/// For a pool of two jobs that weren't offered: whether the first comes from under the lock, and the other by its index.
 pub fn takes_both_ways<'a, R: Wait + 'a>(rt: &'a R, hand: &mut PoolHand<'a, '_, '_, R>) -> bool {
     let locked = entered(hand, rt) == Answer::Begins(0);
     let before = hand.rows.room(1) == 16_384;
@@ -84,7 +84,7 @@ fn found_once<'a, R: Wait + 'a>(rt: &'a R, shared: &'a SharedPool, rows: &mut Ha
     answer_of(hand.enter(rt))
 }
 
-// The home offers. The guest steals the first code, and the home pops the last.
+// The home offers. The guest steals the first index, and the home pops the last.
 fn is_shared_out<'a, R: Wait + 'a>(
     rt: &'a R,
     shared: &'a SharedPool,

@@ -28,7 +28,7 @@ h_name = (refl, tt, refl)
 s_name : IsName (codes "s")
 s_name = (refl, tt, refl)
 
--- a number that texts can spell
+-- A number that texts can spell.
 abbrev IsShort : ℕ → Type 0
 IsShort n = n ≤ greatest_literal
 

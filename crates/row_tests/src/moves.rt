@@ -5,7 +5,7 @@ ghost use Rattle.deque_rows.specs.Rows.{IsLevel, AreAll, identity};
 use deque_rows::{HartRows, Stolen};
 use std::sync::Wait;
 
-// Pushes codes onto a hart's own deque, as far as it has room.
+// Pushes job indices onto a hart's own deque, as far as it has room.
 pub fn put(rows: &mut HartRows, level: u8, codes: &[u32])
     requires { IsLevel level }
     ensures { identity rows.new ≡ identity rows.old }
@@ -17,7 +17,7 @@ pub fn put(rows: &mut HartRows, level: u8, codes: &[u32])
     }
 }
 
-// A hart pushes codes onto its deque.
+// A hart pushes job indices onto its deque.
 pub fn put_at(rows: &mut [HartRows], hart: usize, level: u8, codes: &[u32])
     requires { IsLevel level × (hart < length rows.old) }
     ensures { map identity rows.new ≡ map identity rows.old }

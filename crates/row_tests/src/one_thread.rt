@@ -8,7 +8,7 @@ use deque_rows::{HartRows, Stolen, rows, rows_for};
 use std::sync::Wait;
 use std::test::Fail;
 
-// The home pops the last code, and a guest steals the first.
+// The home pops the last job index, and a guest steals the first.
 fn are_ends_kept<R: Wait>(rt: &R, rows: &mut [HartRows]) -> bool
     requires { AreAll (map identity rows.old) × (length rows.old ≡ 2) }
     ensures { map identity rows.new ≡ map identity rows.old }
@@ -54,7 +54,7 @@ fn the_home_pops_the_last_and_a_guest_steals_the_first(rt: HostRuntime) -> Resul
     Ok(())
 }
 
-// A deque with room for three codes takes the first three of four, and no other one after a pop.
+// A deque with room for three job indices takes the first three of four, and no other one after a pop.
 fn is_filled(rows: &mut [HartRows]) -> bool
     requires { length rows.old ≡ 2 }
     ensures { map identity rows.new ≡ map identity rows.old }

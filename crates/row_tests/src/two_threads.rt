@@ -11,13 +11,13 @@ use std::sync::Wait;
 use std::test::Fail;
 use std::thread::{Threads, for_each_mut};
 
-/// The codes are the numbers below this one.
+/// The job indices are the numbers below this one.
 const CODES: u32 = NUMBERS as u32;
 
 /// The number of the thief's tries.
 const TRIES: u32 = 4096;
 
-// The home pushes each code, and pops every third time.
+// The home pushes each job index, and pops every third time.
 fn be_home(taken: &Taken, home: &mut HartRows)
     ensures { identity home.new ≡ identity home.old }
 {
@@ -31,7 +31,7 @@ fn be_home(taken: &Taken, home: &mut HartRows)
     }
 }
 
-// The guest steals the codes that it finds.
+// The guest steals the job indices that it finds.
 fn be_guest<R: Wait>(rt: &R, taken: &Taken, guest: &mut HartRows)
     requires { 0 < guest.old.harts }
     ensures { identity guest.new ≡ identity guest.old }
@@ -81,7 +81,7 @@ fn take_rest<R: Wait>(rt: &R, taken: &Taken, rows: &mut [HartRows])
     }
 }
 
-// Whether two harts take each code once. Then the account of their deques is settled.
+// Whether two harts take each job index once. Then the account of their deques is settled.
 fn is_shared_out<R: Threads + Wait + Sync>(rt: &R, alloc: Global) -> Result<bool, Fail> {
     let taken = Taken::new();
     let mut all = rows(alloc, 2)?;

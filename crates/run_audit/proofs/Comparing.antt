@@ -6,7 +6,7 @@ use Rattle.journal_text.specs.Reading.{lines_of, is_word, and_then}
 use Rattle.journal_text.proofs.Steps.{some_piece}
 use Rattle.run_audit.specs.Audit.{Compared, after_line, earliest, compared}
 
--- the first line that differs is the one found before, if there is one
+-- The first line that differs is the one found before, if there is one.
 abbrev pub earlier : Option ℕ → Result Compared TextFault → Result Compared TextFault
 earlier None rest = rest
 earlier (Some line) (Ok rest) = Ok record rest { differs = Some line }

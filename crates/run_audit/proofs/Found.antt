@@ -89,7 +89,7 @@ of_legal : (plan : Plan) (meant : List Bool) (differs : Option ℕ) (list : List
 of_legal plan meant None list entries e = let own = of_none (first_fault_of plan meant list) (length list) entries e in (refl, own.0, own.1)
 of_legal plan meant (Some line) list entries e = cc e
 
--- lines without a difference are the wanted lines and the rest
+-- Lines without a difference are the wanted lines and the rest.
 abbrev StandsBefore : List (List ℕ) → List (List ℕ) → List (List ℕ) → Type 0
 StandsBefore lines others rest = (others ≡ lines ++ rest) × AreFree 10 rest
 

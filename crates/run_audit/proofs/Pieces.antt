@@ -35,7 +35,7 @@ joined_behind (line ∷ next ∷ lines) first more =
     append_assoc line (10 ∷ join_with_byte 10 (next ∷ lines ++ [] ∷ [])) (join_with_byte 10 (first ∷ more))
     ∙ ap (λ (t : List ℕ). line ++ 10 ∷ t) (joined_behind (next ∷ lines) first more)
 
--- the text consists of complete lines
+-- The text consists of complete lines.
 pub record IsOfLines (text : List ℕ) : Type 0 where
   pub lines : List (List ℕ)
   pub free : AreFree 10 lines

@@ -49,7 +49,7 @@ rows_next shapes shape =
     take_twice MOST_ROWS (rows_of_shapes shapes) (rows_of_shape shape)
     ∙ ap (take MOST_ROWS) (ap (λ l. rows_of_shapes shapes ++ l) (sym (append-nil (rows_of_shape shape))) ∙ sym (rows_append shapes (shape ∷ [])))
 
--- so many sites have their counters
+-- So many sites have their counters.
 pub record ArePlaced (sites : List SiteRows) (counts : List ℕ) : Type 0 where
   pub rows : counts ≡ claim_rows (map shape_of sites)
   pub behind : AreBehind sites

@@ -33,7 +33,7 @@ only s x low high = omega (arith, low, high)
 
 -- ---- which of the sites were skipped
 
--- the entries that skip these sites
+-- The entries that skip these sites.
 abbrev skips_of : ℕ → List ℕ → List Entry
 skips_of hart sites = map (λ s. Skip hart s) sites
 

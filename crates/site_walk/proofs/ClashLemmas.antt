@@ -34,7 +34,7 @@ set_by_test xs i j t false e h = set_there xs i j t (λ same. false≢true (sym 
 
 -- ---- a visit's effect on a cell
 
--- the marks with a touch, if there is one
+-- The marks with a touch, if there is one.
 abbrev pub touch_if : Bool → Touched → Touched → Touched
 touch_if b touch done = cond b (joined touch done) done
 
@@ -171,7 +171,7 @@ read_own aw n j all xs h same e =
     read_sum aw n j all xs h ∙ ap (λ b. touch_if (not b && nat_eq j n) all (touched_at xs j)) e
     ∙ ap (λ b. touch_if b all (touched_at xs j)) (let yes' : nat_eq j n ≡ true = grind (arith, nat_tests) in yes')
 
--- what was done is part of one of two sums
+-- What was done is part of one of two sums.
 abbrev IsPart : Touched → Touched → Touched → Type 0
 IsPart x w r = joined x (cond x.written w r) ≡ cond x.written w r
 

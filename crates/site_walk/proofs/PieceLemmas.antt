@@ -20,7 +20,7 @@ use Rattle.site_walk.proofs.ClashLemmas.{touch_if, done_with_touch, places_stay,
 
 -- ---- one piece
 
--- the marks after a piece that changes the cell, or reads it, or neither
+-- The marks after a piece that changes the cell, or reads it, or neither.
 abbrev pub after_piece : ℕ → Bool → Bool → Touched → Touched
 after_piece p w r done = touch_if (w || r) (touch_of p w) done
 
@@ -64,7 +64,7 @@ visits_stay_clear arrays p (v ∷ vs) t c places small before h =
 
 -- ---- several pieces
 
--- the marks of a cell after pieces that are numbered from one on
+-- The marks of a cell after pieces that are numbered from one on.
 abbrev done_after : Arrays → ℕ → List Steps → ℕ → Touched → Touched
 done_after arrays p [] c done = done
 done_after arrays p (q ∷ more) c done =
@@ -95,13 +95,13 @@ are_some NoPiece = false
 are_some (One q) = true
 are_some Several = true
 
--- the pieces have lower numbers
+-- The pieces have lower numbers.
 abbrev AreOlder : ℕ → Pieces → Type 0
 AreOlder p NoPiece = Unit {0}
 AreOlder p (One q) = q < p
 AreOlder p Several = Unit {0}
 
--- the marks by pieces of lower numbers: whether some piece changed the cell, and whether some piece read it
+-- The marks by pieces of lower numbers: whether some piece changed the cell, and whether some piece read it.
 record Reports (p : ℕ) (done : Touched) (was_changed was_read : Bool) : Type 0 where
   written : done.written ≡ was_changed
   some : are_some done.by ≡ (was_changed || was_read)

@@ -99,7 +99,7 @@ module _ (program : ProgramTree) (meaning : HasMeaning program) (free : taken_at
   end_is : end ≡ cells_of old + cells_of rows
   end_is = ap (λ q. cells_of q) split ∙ cells_append old rows
 
-  -- an array that is added to in a construct with so many rows
+  -- An array that is added to in a construct with so many rows.
   record Stands (n : ℕ) (a : List ℕ × ℕ) : Type 0 where
     pub known : is_among a.0 (names_in old) ≡ true
     pub base : base_of new a.0 ≡ base_of old a.0

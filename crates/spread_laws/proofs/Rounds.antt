@@ -26,7 +26,7 @@ rows_differ first size i j c other from below from' below' = ⊎_elim
     (cases_lt i j)
 
 module _ (old new : Arrays) (end rows : ℕ) (ts : List Tally) (laid : AreLaid (cells_of old) end rows ts) where
-  -- piece i of the spread program tracks piece i of the given one, in row k + i
+  -- Piece i of the spread program tracks piece i of the given one, in row k + i.
   abbrev pub AreTracked : ℕ → List Steps → List Steps → Type 0
   AreTracked k [] [] = Unit {0}
   AreTracked k [] (q ∷ qs) = ⊥
@@ -162,7 +162,7 @@ module _ (old new : Arrays) (end rows : ℕ) (ts : List Tally) (laid : AreLaid (
 -- ---- sites
 
 module _ (old new : Arrays) where
-  -- sites of the given program, and those of the spread one: the rounds agree
+  -- Sites of the given program, and those of the spread one: the rounds agree.
   abbrev pub AreAlike : List Site → List Site → Type 0
   AreAlike [] [] = Unit {0}
   AreAlike [] (y ∷ ys) = ⊥

@@ -106,7 +106,7 @@ module _ (old new : Arrays) (kept : AreKept old new) (once : AreSingle old) (row
   abbrev Like : ℕ → List Visit → List Visit → Type 0
   Like k vs us = Tracks old new rows ts k vs us
 
-  -- the visit of the array's cell, and that of the row's
+  -- The visit of the array's cell, and that of the row's.
   row_visit : (w : Bool) (line : ℕ) (vars : Vars) (x : List ℕ) (e row : Expression) (k : ℕ) → IsPlaced old new rows ts x → k < rows → is_sum x ≡ true
       → is_dynamic e ≡ false → is_dynamic row ≡ false → HasRow new row k vars → AreFine old (visit old line w vars x e ∷ [])
       → Like k (visit old line w vars x e ∷ []) (visit new line w vars (rows_name x) (row_cell old row x e) ∷ [])
@@ -147,7 +147,7 @@ module _ (old new : Arrays) (kept : AreKept old new) (once : AreSingle old) (row
           let cov : Covers old x (Some i) c = subst (λ (d : Bool). Covers old x (if d then None else Some i) c) still h.1 in
           record { array = (x, length_of old x); declared = named_member old x known; sum = sum; from = omega (arith, cov); below = omega (arith, cov, less) }
 
-  -- the add, and that to the row
+  -- The add, and that to the row.
   add_tracks : (line : ℕ) (vars : Vars) (x : List ℕ) (e v row : Expression) (k : ℕ) → IsPlaced old new rows ts x → k < rows → is_sum x ≡ true
       → is_dynamic e ≡ false → is_dynamic row ≡ false → HasRow new row k vars → reads_sum v ≡ false
       → AreFine old (walk old (Set line vars x e (Binary Add (Read x e) v) Done))

@@ -91,7 +91,7 @@ pub clean_join : (xs ys : List Visit) → AreClean xs → AreClean ys → AreCle
 clean_join [] ys f g = g
 clean_join (v ∷ xs) ys f g = (f.0, clean_join xs ys f.1 g)
 
--- a touched cell isn't one of an accumulating array
+-- A touched cell isn't one of an accumulating array.
 abbrev IsPlain : Arrays → ℕ → Type 0
 IsPlain old c = (c < cells_of old) × (IsSumCell old c → ⊥)
 
@@ -150,7 +150,7 @@ module _ (old new : Arrays) (kept : AreKept old new) where
 -- ---- the relation
 
 module _ (old new : Arrays) (rows : ℕ) (ts : List Tally) where
-  -- a cell of row k of some array
+  -- A cell of row k of some array.
   pub record IsInRow (k c : ℕ) : Type 0 where
     pub tally : Tally
     pub member : IsMember tally ts
@@ -158,7 +158,7 @@ module _ (old new : Arrays) (rows : ℕ) (ts : List Tally) where
     pub from : tally.first + k * tally.size ≤ c
     pub below : c < tally.first + (k * tally.size + tally.size)
 
-  -- visits of the given program, and those of the spread one
+  -- Visits of the given program, and those of the spread one.
   pub record Tracks (k : ℕ) (vs us : List Visit) : Type 0 where
     pub to : (w : Bool) (c : ℕ) → Touches new w us c → (Touches old w vs c × (c < cells_of old) × (IsSumCell old c → ⊥)) ⊎ IsInRow k c
     pub from : (w : Bool) (c : ℕ) → Touches old w vs c → IsSumCell old c ⊎ Touches new w us c

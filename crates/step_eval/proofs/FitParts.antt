@@ -79,7 +79,7 @@ pub record AreFitParts (arrays : List Declaration) (vars : Vars) (s : Sequence) 
   pub indices : are_inside (arrays_of arrays) (walk (arrays_of arrays) steps) ≡ true
   pub apart : AreSitesApart (arrays_of arrays) (sequence_sites s vars)
 
--- the parts of a work
+-- The parts of a work.
 abbrev pub WorkParts : JobTree → WorkAt → Type 0
 WorkParts job w = AreFitParts job.arrays w.vars (statements_of w.work) (steps_of w.work w.vars)
 

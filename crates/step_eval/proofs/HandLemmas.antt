@@ -36,7 +36,7 @@ first_of_statements (followed (Team line var low high members phases) rest) cons
     subst (IsFirst (followed (Team line var low high members phases) rest))
     (let same : Team line var low high members phases ≡ construct = cc in same) record { rest = rest; is = refl; kind = refl }
 
--- the construct is the first statement of the first work
+-- The construct is the first statement of the first work.
 pub record IsAtConstruct (works : List WorkAt) (vars : Vars) (construct : Statement) : Type 0 where
   pub rest : Sequence
   pub after : ℕ

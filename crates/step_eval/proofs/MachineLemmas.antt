@@ -190,7 +190,7 @@ sound_advanced job before after store store' room next next' s sound done stacke
 
 -- ---- a supply
 
--- a machine that took the writes of the next construct is behind the construct, and is sound
+-- A machine that took the writes of the next construct is behind the construct, and is sound.
 pub record IsSupplied (job : JobParts) (before after : Frames) (store store' : Trace) (room : Laid) (next next' : ℕ) : Type 0 where
   pub moved : HasMoved (works_of before job.vars) record { job = job; rest = works_of before job.vars; store = store; next = next; stage = Awaiting }
       record { job = job; rest = works_of after job.vars; store = store'; next = next'; stage = Going }

@@ -20,11 +20,11 @@ use Rattle.step_eval.proofs.NestParts.{AreFitBranches, par_parts, branch_parts, 
 
 -- ---- the pieces of a construct
 
--- the construct that is handed out
+-- The construct that is handed out.
 abbrev pub handed : JobTree → ℕ → Statement → Vars → Store → NestedTree
 handed job next construct vars store = record { arrays = job.arrays; site = next; construct = construct; vars = vars; store = store }
 
--- the job of a piece, with the arrays of the construct's own job
+-- The job of a piece, with the arrays of the construct's own job.
 abbrev pub piece_job : JobTree → (site phase place first : ℕ) → WorkAt → Store → JobTree
 piece_job job site phase place first w store = record {
   arrays = job.arrays;

@@ -23,7 +23,7 @@ use Rattle.step_eval.proofs.FitParts.{AreFitParts, and_true, inside_append, insi
 
 -- ---- the branches of a `par`
 
--- the parts of branches, each with these loop variables around
+-- The parts of branches, each with these loop variables around.
 pub record AreFitBranches (arrays : List Declaration) (vars : Vars) (bs : Sequences) : Type 0 where
   pub new_variables : have_new_variables bs (names_around vars ++ names_of arrays) ≡ true
   pub known_names : have_known_names bs (names_of arrays) (names_around vars) ≡ true
@@ -77,7 +77,7 @@ branch_parts arrays vars first rest parts =
 
 -- ---- the phases of a `team`
 
--- the parts of phases, each a loop with these loop variables around
+-- The parts of phases, each a loop with these loop variables around.
 pub record AreFitPhases (arrays : List Declaration) (vars : Vars) (var : List ℕ) (low high : ℤ) (ps : Sequences) : Type 0 where
   pub new_variable : not (is_among var (names_around vars ++ names_of arrays)) ≡ true
   pub new_variables : have_new_variables ps (var ∷ names_around vars ++ names_of arrays) ≡ true
@@ -111,7 +111,7 @@ team_parts arrays vars line var low high members ps parts =
       counts.0,
     )
 
--- the parts of the loop over a body
+-- The parts of the loop over a body.
 abbrev pub LoopParts : List Declaration → Vars → List ℕ → ℤ → ℤ → Sequence → Type 0
 LoopParts arrays vars var low high body =
     AreFitParts arrays vars (followed (For 0 var low high body) ended) (loop var low high (sequence_work body) vars)

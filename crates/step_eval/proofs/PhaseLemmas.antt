@@ -105,7 +105,7 @@ jobs_are_rounds nested phase store h =
 
 -- ---- phase after phase
 
--- the steps of the first rounds
+-- The steps of the first rounds.
 abbrev steps_to : List (List Steps) → ℕ → Steps
 steps_to rounds zero = Done
 steps_to rounds (suc n) = followed_by (steps_to rounds n) (join (round_at rounds n))
@@ -142,7 +142,7 @@ all_rounds (Team line var low high members phases) vars e h =
     let some = some_members members (and_parts (int_le low high) (is_up_to (pos 64) members) parts.0).1 in
     join_phases phases var low high (unsigned_abs members) vars some
 
--- the first n phases write what their steps write
+-- The first n phases write what their steps write.
 pub record IsPart (nested : NestedTree) (n : ℕ) : Type 0 where
   pub writes : writes_before nested n ≡ piece_of (arrays_of nested.arrays) (steps_to (rounds_of nested.construct nested.vars) n) nested.store
   pub store : store_before nested n ≡ after (writes_of (arrays_of nested.arrays) (steps_to (rounds_of nested.construct nested.vars) n) nested.store) nested.store

@@ -25,7 +25,7 @@ par_view line branches =
 pub count_blocks : (blocks : Blocks) → count_of (sequences_of blocks) ≡ length (out-Blocks blocks).blocks.items
 count_blocks blocks = ap count_of (sequences_of-blocks blocks) ∙ count_of-sequences (out-Blocks blocks).blocks.items
 
--- the parts of a team's limits
+-- The parts of a team's limits.
 team_limits : (low high members : ℤ) (phases : Sequences) →
     ((int_le low high && is_up_to (pos 64) members) && (is_up_to (pos 8) (pos (count_of phases)) && have_right_ranges phases)) ≡ true →
     (is_up_to (pos 64) members ≡ true) × (is_up_to (pos 8) (pos (count_of phases)) ≡ true)

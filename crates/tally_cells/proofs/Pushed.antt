@@ -11,7 +11,7 @@ use Rattle.array_meaning.specs.Limits.{has_right_ranges, statement_has_right_ran
 use Rattle.spread_laws.specs.Spread.{and_rest}
 use Rattle.spread_laws.specs.Served.{IsNarrowStatement, IsNarrowSequence, AreNarrow}
 
--- blocks, and more blocks behind them
+-- Blocks, and more blocks behind them.
 abbrev pub and_beside : List Sequence → Sequences → Sequences
 and_beside [] rest = rest
 and_beside (b ∷ more) rest = beside b (and_beside more rest)

@@ -199,6 +199,6 @@ chosen_members-meaning = record {
   indices = refl;
 }
 
--- a program of the tree has a meaning
+-- A program of the tree has a meaning.
 pub meant : (known : ProgramTree) → HasMeaning known → (program : ProgramTree) → program ≡ known → HasMeaning program
 meant known meaning program same = subst HasMeaning (sym same) meaning

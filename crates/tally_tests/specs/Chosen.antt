@@ -24,7 +24,7 @@ chosen_constructs = record {
   body = alone (For 1 (codes "k") (pos 0) (pos 2) (alone either));
 }
 
--- a[index] = value;
+-- A[index] = value;
 abbrev pub put : Expression → ℤ → Statement
 put index value = Assign 1 (codes "a") index (Number value)
 

@@ -20,7 +20,7 @@ add_to_second x v = Assign 1 x (Number (pos 1)) (Binary Add (Read x (Number (pos
 abbrev pub two_branches : Sequence → Sequence → Statement
 two_branches first second = Par 1 (beside first (beside second no_more))
 
--- a[i] = i * i;
+-- A[i] = i * i;
 abbrev pub square : Statement
 square = Assign 1 (codes "a") (Var (codes "i")) (Binary Mul (Var (codes "i")) (Var (codes "i")))
 

@@ -88,7 +88,7 @@ fn member(alloc: Global) -> Result<Stmt, AllocError>
     })
 }
 
-// a[index] = value;
+// A[index] = value;
 fn put(alloc: Global, index: Expr, value: i64) -> Result<Stmt, AllocError>
     ensures { IfOk result (λ s. statement_of s ≡ put (expression_of index) value) }
 {

@@ -167,7 +167,7 @@ fn one_team(
     })
 }
 
-// a[i] = i * i;
+// A[i] = i * i;
 fn square(alloc: Global) -> Result<Stmt, AllocError>
     ensures { IfOk result (λ s. statement_of s ≡ square) }
 {

@@ -6,7 +6,7 @@ use Rattle.open_table.specs.declared.table.Size.{Size}
 use Rattle.open_board.specs.declared.seat.OpenSeat.{OpenSeat}
 use Rattle.task_crew.specs.Runs.{IsSeatOf}
 
--- one seat more
+-- One seat more.
 pub one_more : (table : TableId) (size : Size) (made new : List OpenSeat) (seat : OpenSeat) → IsSeatOf table size seat → new ≡ made ++ seat ∷ []
     → All (IsSeatOf table size) made → All (IsSeatOf table size) new
 one_more table size made new q is e h =

@@ -20,7 +20,7 @@ module _ {A B : Type 0} (R : A → B → Type 0) where
   zip_append (x ∷ xs) us [] vs z w = absurd z
   zip_append (x ∷ xs) us (y ∷ ys) vs z w = (z.0, zip_append xs us ys vs z.1 w)
 
-  -- the images of two neighbouring ranges, one behind the other
+  -- The images of two neighbouring ranges, one behind the other.
   pub zip_ranges : (xs : List A) (ys vs all : List B) (low middle high : ℕ) → low ≤ middle → middle ≤ high → all ≡ ys ++ vs
       → (middle ≤ length xs → AllZip R (between low middle xs) ys) → (high ≤ length xs → AllZip R (between middle high xs) vs)
       → high ≤ length xs → AllZip R (between low high xs) all
@@ -30,7 +30,7 @@ module _ {A B : Type 0} (R : A → B → Type 0) where
   pub zip_push : (xs : List A) (ys : List B) (x : A) (y : B) → AllZip R xs ys → R x y → AllZip R (xs ++ x ∷ []) (ys ++ y ∷ [])
   zip_push xs ys x y z r = zip_append xs (x ∷ []) ys (y ∷ []) z (r, tt)
 
--- the sums of two neighbouring ranges
+-- The sums of two neighbouring ranges.
 pub sum_ranges : (xs : List ℕ) (a b c low middle high m : ℕ) → low ≤ middle → middle ≤ high → c ≡ (a + b) % m
     → (middle ≤ length xs → a ≡ sum (between low middle xs) % m) → (high ≤ length xs → b ≡ sum (between middle high xs) % m)
     → high ≤ length xs → c ≡ sum (between low high xs) % m
@@ -40,19 +40,19 @@ sum_ranges xs a b c low middle high m h k e f g fits =
     let fb = g fits in
     e ∙ (ap (λ n. (n + b) % m) fa ∙ (ap (λ n. (sum (between low middle xs) % m + n) % m) fb ∙ (sym (add-mod (sum (between low middle xs)) (sum (between middle high xs)) m) ∙ ap (λ n. n % m) (sym parts))))
 
--- the whole of a list
+-- The whole of a list.
 pub whole_range : {X : Type 0} (xs : List X) (n : ℕ) → n ≡ length xs → between 0 n xs ≡ xs
 whole_range xs n e =
     let m : n - 0 ≡ length xs = omega (arith, e) in
     ap (λ k. take k xs) m ∙ take-length xs
 
--- one element more has its image
+-- One element more has its image.
 pub zip_more : {A B : Type 0} (R : A → B → Type 0) (xs : List A) (i : ℕ) (ys all : List B) (x : A) (y : B) → i < length xs → x ≡ get_or xs i x
     → AllZip R (take i xs) ys → R x y → all ≡ ys ++ y ∷ [] → AllZip R (take (i + 1) xs) all
 zip_more R xs i ys all x y lt is z r e =
     subst (λ zs. AllZip R (take (i + 1) xs) zs) (sym e) (subst (λ ws. AllZip R ws (ys ++ y ∷ [])) (sym (take_more xs i x lt ∙ ap (λ z. take i xs ++ z ∷ []) (sym is))) (zip_push R (take i xs) ys x y z r))
 
--- one number more is added
+-- One number more is added.
 pub sum_more : (xs : List ℕ) (i t u x m : ℕ) → i < length xs → x ≡ get_or xs i 0 → t ≡ sum (take i xs) % m → u ≡ (t + x) % m → u ≡ sum (take (i + 1) xs) % m
 sum_more xs i t u x m lt is et eu =
     let one : sum (x ∷ []) ≡ x = omega arith in

@@ -6,7 +6,7 @@ use Rattle.task_matrix.specs.Product.{dot}
 add_product : (s x m : ℕ) → (s % m + x % m) % m ≡ (s + x) % m
 add_product s x m = mod-add-mod s m (x % m) ∙ add-mod-mod s x m
 
--- one product more is added
+-- One product more is added.
 pub dot_more : (xs ys : List ℕ) (i s p x y m : ℕ) → s ≡ dot i xs ys % m → x ≡ get_or xs i 0 → y ≡ get_or ys i 0 → p ≡ (s + (x * y) % m) % m → p ≡ dot (i + 1) xs ys % m
 dot_more xs ys i s p x y m es ex ey ep =
     let xy : x * y ≡ get_or xs i 0 * get_or ys i 0 = ap (λ n. n * y) ex ∙ ap (λ n. get_or xs i 0 * n) ey in

@@ -1,4 +1,4 @@
--- Each step keeps the rule of a table of tasks.
+-- Each step keeps the invariant of a table of tasks.
 use Rattle.std.proofs.Common.{◌≡◌, ◌≢◌, ℕ, zero, suc, ◌<◌, ◌==◌, List, [], ◌∷◌, map, replicate, get_or, set, sym, refl, ◌∙◌, subst, arith, length, length-set, get_or-set_same, ⊎_elim}
 use Rattle.std.proofs.lemmas.List.{get_or-set_other, length-map, length-replicate}
 use mathlib.Core.Logic.{dite}
@@ -13,13 +13,13 @@ use Rattle.task_table.specs.declared.slot.TaskSlot.TheVariants.{Waits, Ended}
 use Rattle.task_table.specs.declared.slot.SeatView.{SeatView}
 use Rattle.task_table.specs.Slots.{StandsAt, TasksStand, IsSeatView, Claims, Collects, looked}
 
--- there is an element at each place
+-- There is an element at each place.
 pub there : {A : Type 0} (l : List A) (i : ℕ) → i < length l → (a : A) × (get_elem? l i ≡ some a)
 there [] i h = absurd (omega arith)
 there (x ∷ xs) zero h = (x, refl)
 there (x ∷ xs) (suc i) h = there xs i (omega arith)
 
--- a list of one
+-- A list of one.
 one_only : {A : Type 0} (a v : A) (i : ℕ) → get_elem? (a ∷ []) i ≡ some v → v ≡ a
 one_only a v zero e = sym (some-injective a v e)
 one_only a v (suc i) e = absurd (some-ne-none v (sym e))
@@ -29,7 +29,7 @@ zeros zero i z = absurd (omega arith)
 zeros (suc n) zero z = absurd (omega arith)
 zeros (suc n) (suc i) z = zeros n i z
 
--- a word that isn't 0 stays so where no step makes it 0
+-- A word that isn't 0 stays so where no step makes it 0.
 still_claimed : (words : List ℕ) (i m : ℕ) → i < length words → (get_or {A = ℕ} words i 0 ≢ 0 → m ≢ 0)
     → (p : ℕ) → get_or {A = ℕ} words p 0 ≢ 0 → get_or {A = ℕ} (set words i m) p 0 ≢ 0
 still_claimed words i m at rise p old =
@@ -41,7 +41,7 @@ still_claimed words i m at rise p old =
     (λ other z. old (sym (get_or-set_other words i p m 0 other) ∙ z))
 
 module _ {T R K : Type 0} (ends : T → R → Type 0) (list_of : K → List T) (key : K) where
-  -- a step that changes the word and the slot of one task, and the view of one seat
+  -- A step that changes the word and the slot of one task, and the view of one seat.
   stays : (s : State (TaskSlot T R) (SeatView K)) → TasksStand ends key (list_of key) s → (id i m : ℕ) (u : SeatView K)
       → i < length (list_of key) → (get_or s.words i 0 ≢ 0 → m ≢ 0) → IsSeatView key (set s.words i m) u
       → (homes : List (Option (TaskSlot T R))) → length homes ≡ length s.homes
@@ -69,7 +69,7 @@ module _ {T R K : Type 0} (ends : T → R → Type 0) (list_of : K → List T) (
             subst (λ (o : Option (Option (TaskSlot T R))). StandsAt ends task (get_or (set s.words i m) j 0) o) (sym (others j other)) k')),
       )
 
-  -- what a seat knows after it read the word at i, which then is m
+  -- What a seat knows after it read the word at i, which then is m.
   sees : (words : List ℕ) (v : SeatView K) (i m : ℕ) → v.tasks ≡ key → i < length words → (get_or words i 0 ≢ 0 → m ≢ 0)
       → IsSeatView key (set words i m) (looked v i (get_or words i 0))
   sees words v i m e at rise = (e, λ z y. rise z (sym (get_or-set_same words i m 0 at) ∙ y))

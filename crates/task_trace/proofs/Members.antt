@@ -11,7 +11,7 @@ hart_append hart [] fs = refl
 hart_append hart (e ∷ es) fs =
     ap (λ ms. event_members hart e ++ ms) (hart_append hart es fs) ∙ sym (append_assoc (event_members hart e) (hart_members hart es) (hart_members hart fs))
 
--- one event more
+-- One event more.
 pub hart_more : (hart : ℕ) (es : List Event) (i : ℕ) (d : Event) → i < length es
     → hart_members hart (take (i + 1) es) ≡ hart_members hart (take i es) ++ event_members hart (get_or es i d)
 hart_more hart es i d lt =
@@ -25,7 +25,7 @@ members_append k (h ∷ hs) gs =
     ap (λ ms. hart_members k h.items ++ ms) (members_append (k + 1) hs gs ∙ ap (λ n. members_from (k + 1) hs ++ members_from n gs) e)
     ∙ sym (append_assoc (hart_members k h.items) (members_from (k + 1) hs) (members_from (k + length (h ∷ hs)) gs))
 
--- one hart more
+-- One hart more.
 pub members_more : (hs : List (Vec Event Global)) (i : ℕ) (h : Vec Event Global) → i < length hs → h ≡ get_or hs i h
     → members_from 0 (take (i + 1) hs) ≡ members_from 0 (take i hs) ++ hart_members i h.items
 members_more hs i h lt is =

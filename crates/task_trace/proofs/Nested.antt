@@ -4,7 +4,7 @@ use Rattle.task_trace.specs.declared.event.Event.{Event}
 use Rattle.task_trace.specs.declared.event.Event.TheVariants.{Begin, End}
 use Rattle.task_trace.specs.Nesting.{running_after}
 
--- a task begins after the events
+-- A task begins after the events.
 pub more : (running : ℕ) (events : List Event) (left site nanos : ℕ) → running_after running events ≡ Some left
     → running_after running (events ++ Begin site nanos ∷ []) ≡ Some (left + 1)
 more running [] left site nanos h = ap (option_map (λ n. n + 1)) h
@@ -12,7 +12,7 @@ more running (Begin s t ∷ es) left site nanos h = more (running + 1) es left s
 more zero (End t ∷ es) left site nanos h = ap (option_map (λ n. n + 1)) h
 more (suc others) (End t ∷ es) left site nanos h = more others es left site nanos h
 
--- a task ends after the events
+-- A task ends after the events.
 pub fewer : (running : ℕ) (events : List Event) (left nanos : ℕ) → running_after running events ≡ Some (left + 1)
     → running_after running (events ++ End nanos ∷ []) ≡ Some left
 fewer zero [] left nanos h = let e : 0 ≡ left + 1 = ap (λ o. unwrap_or o 0) h in absurd (omega (arith, e))

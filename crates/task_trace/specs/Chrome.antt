@@ -9,10 +9,11 @@ use Rattle.std.specs.declared.vec.Vec.{Vec}
 use Rattle.task_trace.specs.declared.event.Event.{Event}
 use Rattle.task_trace.specs.declared.event.Event.TheVariants.{Begin, End}
 
--- A member with a text, and one with a number.
+-- A member with a text.
 abbrev pub text_member : List ℕ → List ℕ → List serde.Event
 text_member key value = field_key key AsIs ∷ text value ∷ []
 
+-- A member with a number.
 abbrev pub number_member : List ℕ → ℕ → List serde.Event
 number_member key value = field_key key AsIs ∷ unsigned value ∷ []
 

@@ -14,15 +14,15 @@
 //! #[derive(Drop)]
 //! struct Length<'p> { text: &'p [u8], cuts: u8 }
 //!
-//! impl<'p> TaskKind for Length<'p> {
+//! Impl<'p> TaskKind for Length<'p> {
 //!     type Output = usize;
 //!     type Error = AllocError;
 //!     ghost gives = { λ task output. output ≡ length task.text.now };
 //!     ghost fails = { λ _ _. ⊥ };
 //!     ghost depth = { λ task. task.cuts };
-//! }
+//! }.
 //!
-//! impl<'p> Task for Length<'p> {
+//! Impl<'p> Task for Length<'p> {
 //!     fn run<H: Harts<Self>>(self, alloc: Global, harts: &mut H) -> Result<usize, AllocError> {
 //!         let Length { text, cuts } = self;
 //!         if cuts == 0 || text.len() < 2 {
@@ -35,7 +35,7 @@
 //!         let lengths = harts.fork_join(alloc, halves)?;
 //!         ..
 //!     }
-//! }
+//! }.
 //!
 //! let length = run_alone(alloc, Length { text: b"four", cuts: 2 })?;
 //! ```

@@ -19,7 +19,7 @@ tables_push : (pieces : List Piece) (p : Piece) (more : List (List Touch)) → t
 tables_push [] p more = refl
 tables_push (q ∷ pieces) p more = ap (λ ts. q.touches.items ∷ ts) (tables_push pieces p more)
 
--- these pieces and any records of the rest are records of all pieces
+-- These pieces and any records of the rest are records of all pieces.
 abbrev pub Completes : Arrays → List Piece → List Steps → List Steps → Type 0
 Completes arrays pieces rest all = (more : List (List Touch)) → ArePiecesNoted arrays more rest → ArePiecesNoted arrays (tables_of pieces ++ more) all
 

@@ -14,7 +14,7 @@ between_fits l (pos x) (negsuc h) fl fh low high = absurd (omega (arith, ints))
 between_fits (pos l) (negsuc x) h fl fh low high = absurd (omega (arith, ints))
 between_fits (negsuc l) (negsuc x) h fl fh low high = record { sfits = omega (arith, ints) }
 
--- the interval of two numbers, as the code makes it
+-- The interval of two numbers, as the code makes it.
 abbrev pub noted : ℤ → ℤ → Interval
 noted least greatest = record { least = to_z w64 (of_z w64 least); greatest = to_z w64 (of_z w64 greatest) }
 
@@ -30,7 +30,7 @@ pub unwrapped_lies : (least greatest x : ℤ) → FitsSigned w64 least → FitsS
 unwrapped_lies least greatest x fl fg low high =
     subst (LiesIn (noted least greatest)) (sym (int_wrap_fits w64 x (between_fits least x greatest fl fg low high))) (noted_lies least greatest x fl fg low high)
 
--- a checked operation: the exact result fits, and is the result
+-- A checked operation: the exact result fits, and is the result.
 abbrev pub Checked : ℤ → ℤ → Type 0
 Checked result exact = FitsSigned w64 exact × (result ≡ exact)
 
@@ -40,12 +40,12 @@ checked_lies least greatest low high x l g below above =
     unwrapped_lies least greatest x (subst (FitsSigned w64) (sym l.1) l.0) (subst (FitsSigned w64) (sym g.1) g.0)
     (subst (λ z. z ≤ℤ x) (sym l.1) below) (subst (λ z. x ≤ℤ z) (sym g.1) above)
 
--- both bounds fit
+-- Both bounds fit.
 pub record AreFit (within : Interval) : Type 0 where
   pub least : FitsSigned w64 within.least
   pub greatest : FitsSigned w64 within.greatest
 
--- a number, as the code passes it
+-- A number, as the code passes it.
 abbrev pub seen : ℤ → ℤ
 seen x = to_z w64 (of_z w64 x)
 

@@ -59,7 +59,7 @@ registers-here es e = registers-snoc (site_of e) es e ∙ rw (eq-eqb (site_of e)
 pub unregisters-here : (es : List Entry) (e : Entry) → unregisters (site_of e) (es ++ e ∷ []) ≡ unregisters (site_of e) es + cond (is_unregister e) 1 0
 unregisters-here es e = unregisters-snoc (site_of e) es e ∙ rw (eq-eqb (site_of e) (site_of e) refl) refl
 
--- a site's row in terms of the entries of the site
+-- A site's row in terms of the entries of the site.
 pub record IsBalanced (p : Plan) (es : List Entry) (s : ℕ) (r : Row) : Type 0 where
   pub wished : enters s es + r.wishes ≡ r.asked
   pub asked : r.asked ≡ requested s es
@@ -127,7 +127,7 @@ legal_by_home p plan es t is = lasts p plan (λ xs u. All (IsByHome u) xs) (All-
 pub skips_over-snoc : (p : Plan) (s : ℕ) (es : List Entry) (e : Entry) → skips_over p s (es ++ e ∷ []) ≡ skips_over p s es + cond (covers p e s) 1 0
 skips_over-snoc p s es e = let z = sum_by-append (λ x. cond {A = ℕ} (covers p x s) 1 0) es (e ∷ []) in omega arith
 
--- the numbers of registers, unregisters and skips of a site
+-- The numbers of registers, unregisters and skips of a site.
 pub record AreCounted (p : Plan) (es : List Entry) (s : ℕ) (r : Row) : Type 0 where
   pub came : registers s es ≡ (if is_some r.home then 1 else 0)
   pub went : unregisters s es ≡ (if (is_gone r.stage && is_some r.home) then 1 else 0)

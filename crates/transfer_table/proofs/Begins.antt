@@ -29,11 +29,11 @@ skips-here es e = skips-snoc (site_of e) es e ∙ rw (eq-eqb (site_of e) (site_o
 pub skips-other : (s : ℕ) (es : List Entry) (e : Entry) → s ≢ site_of e → skips s (es ++ e ∷ []) ≡ skips s es
 skips-other s es e n = let z = skips-snoc s es e in let q : cond {A = ℕ} (if site_of e == s then is_skip e else false) 1 0 ≡ 0 = rw (ne_eqb (site_of e) s (λ y. n (sym y))) refl in omega arith
 
--- the parent is a site that is gone
+-- The parent is a site that is gone.
 abbrev HasGoneParent : Plan → TableState → ℕ → Type 0
 HasGoneParent p t s = IsSite p (parent p s) × ((row t (parent p s)).stage ≡ Gone)
 
--- a site's row against its own skips
+-- A site's row against its own skips.
 record IsSkipped (p : Plan) (es : List Entry) (t : TableState) (s : ℕ) (r : Row) : Type 0 where
   few : skips s es ≤ 1
   kept : is_some r.home ≡ true → skips s es ≡ 0

@@ -51,7 +51,7 @@ guest_other t h o e = rw e refl
 guest_same : (t u : TableState) (h o : ℕ) → (row u o).home ≡ (row t o).home → guest u h o ≡ guest t h o
 guest_same t u h o e = ap (λ (q : Option ℕ). one (not (is_home q h))) e
 
--- the number of sites on the path to the base of which the hart isn't the home
+-- The number of sites on the path to the base of which the hart isn't the home.
 guests : Plan → TableState → ℕ → ℕ → ℕ → ℕ
 guests p t h zero o = 0
 guests p t h (suc f) o = cond (eqb o 0) 0 (guest t h o + guests p t h f (parent p o))
@@ -80,7 +80,7 @@ all_zero p t h = guests_zero p t h (suc (site_count p))
 all_step : (p : Plan) → IsPlan p → (t : TableState) (h o : ℕ) → 1 ≤ o → o ≤ site_count p → all p t h o ≡ guest t h o + all p t h (parent p o)
 all_step p s t h o low high = let b = s.below o low high in guests_step p t h (site_count p) o (λ z. omega arith) ∙ ap (λ (q : ℕ). guest t h o + q) (more_fuel p s t h (site_count p) (parent p o) (omega arith) (omega arith))
 
--- the base, or a live site
+-- The base, or a live site.
 abbrev IsPath : Plan → TableState → ℕ → Type 0
 IsPath p t o = o ≢ 0 → (o ≤ site_count p) × IsLive t o
 
@@ -93,7 +93,7 @@ guests_same p s t u h (suc f) o nested same path = dite (ℕ_discrete o 0)
     (λ n. let r = path n in let low : 1 ≤ o = omega arith in guests_step p u h f o n ∙ ap (λ (q : ℕ). q + guests p u h f (parent p o)) (same o low r.0 r.1)
     ∙ ap (λ (q : ℕ). guest t h o + q) (guests_same p s t u h f (parent p o) nested same (nested o low r.0 r.1)) ∙ sym (guests_step p t h f o n))
 
--- the sum over the harts below m
+-- The sum over the harts below m.
 harts_sum : Plan → TableState → ℕ → ℕ
 harts_sum p t zero = 0
 harts_sum p t (suc m) = all p t m (owner t m) + harts_sum p t m
@@ -110,7 +110,7 @@ sum_one p t u (suc m) h lt f = dite (ℕ_discrete h m)
     (λ z. let r = sum_same p t u m (λ g l. f g (omega arith) (λ c. omega arith)) in let a : all p u h (owner u h) ≡ all p u m (owner u m) = ap (λ (q : ℕ). all p u q (owner u q)) z in let b : all p t h (owner t h) ≡ all p t m (owner t m) = ap (λ (q : ℕ). all p t q (owner t q)) z in omega arith)
     (λ n. let r = sum_one p t u m h (omega arith) (λ g l c. f g (omega arith) c) in let a = f m (omega arith) (λ c. n (sym c)) in omega arith)
 
--- the entries that a site may still get, except the yields of the harts inside
+-- The entries that a site may still get, except the yields of the harts inside.
 abbrev due_in : ℕ → ℕ → ℕ → Stage → ℕ
 due_in n asked wishes New = 3 * n - 1
 due_in n asked wishes Live = 1 + 3 * (n - 1 - asked) + 2 * wishes

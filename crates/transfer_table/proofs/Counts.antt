@@ -78,7 +78,7 @@ board-wishes b counts i r is same few = record {
 small_parent : (p : Plan) → IsPlan p → (i : ℕ) → i < site_count p → slice_index p.parents i ≤ site_count p
 small_parent p is i lt = let b = is.below (i + 1) (omega arith) (omega arith) in let e : i + 1 - 1 ≡ i = omega arith in let c = ap (slice_index p.parents) e in omega arith
 
--- how much a row counts
+-- How much a row counts.
 abbrev pub counts_for : Row → ℕ
 counts_for r = if is_gone r.stage then 0 else 1
 
@@ -160,7 +160,7 @@ pub board-swept : {ends : List ℕ} (b : Position) (counts : List ℕ) (x q k n 
 board-swept b counts x q k n g r is low high read_row read_parent read_count read_stage read_byte =
     board-ends b counts b.state.owners x q k n g r (swept_row r) is is.position.owners low high read_row read_parent read_count read_stage read_byte refl refl refl
 
--- the number of parents that are s
+-- The number of parents that are s.
 abbrev pub children : List ℕ → ℕ → ℕ
 children [] s = 0
 children (q ∷ qs) s = if q == s then 1 + children qs s else children qs s
@@ -179,7 +179,7 @@ children-drop [] i s lt = absurd (omega arith)
 children-drop (q ∷ qs) zero s lt = refl
 children-drop (q ∷ qs) (suc i) s lt = children-drop qs i s (omega arith)
 
--- the parents of the first i sites are counted
+-- The parents of the first i sites are counted.
 pub record AreCounted (qs counts : List ℕ) (i : ℕ) : Type 0 where
   pub size : length counts ≡ length qs + 1
   pub few : (s : ℕ) → slice_index counts s ≤ i

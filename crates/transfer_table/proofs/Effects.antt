@@ -14,7 +14,7 @@ use Rattle.transfer_table.proofs.Positions.{Fits}
 use Rattle.transfer_table.proofs.Sweeps.{swept-within, swept-outside}
 use Rattle.transfer_table.proofs.Within.{within-itself}
 
--- the owner of the entry's hart after the entry
+-- The owner of the entry's hart after the entry.
 abbrev pub owner_after : Plan → Entry → ℕ
 owner_after p (Register h s) = s
 owner_after p (Request h s k) = s
@@ -23,7 +23,7 @@ owner_after p (Yield h s) = parent p s
 owner_after p (Unregister h s) = parent p s
 owner_after p (Skip h s) = parent p s
 
--- the row of the entry's site after the entry
+-- The row of the entry's site after the entry.
 abbrev pub row_after : TableState → Entry → Row
 row_after t (Register h s) = record { stage = Live; home = Some h; wishes = 0; asked = 0 }
 row_after t (Request h s k) = record (row t s) { wishes = (row t s).wishes + k; asked = (row t s).asked + k }

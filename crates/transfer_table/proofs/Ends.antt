@@ -12,29 +12,29 @@ use Rattle.transfer_table.proofs.Within.{within_all}
 
 -- ---- one end is raised
 
--- at the site
+-- At the site.
 raised_here : (ends : List ℕ) (s end : ℕ) → s < length ends → slice_index (raised ends s end) s ≡ max (slice_index ends s) end
 raised_here ends s end lt = get_or-set_same ends s (max (slice_index ends s) end) 0 lt
 
--- at another one
+-- At another one.
 raised_there : (ends : List ℕ) (s end o : ℕ) → (o ≡ s → ⊥) → slice_index (raised ends s end) o ≡ slice_index ends o
 raised_there ends s end o other = get_or-set_other ends s o (max (slice_index ends s) end) 0 other
 
--- no end falls
+-- No end falls.
 raised_up : (ends : List ℕ) (s end o : ℕ) → s < length ends → slice_index ends o ≤ slice_index (raised ends s end) o
 raised_up ends s end o lt = dite (ℕ_discrete o s)
     (λ e. let P : ℕ → Type 0 = λ x. slice_index ends x ≤ slice_index (raised ends s end) x in
     subst P (sym e) (let h = raised_here ends s end lt in let m = le-max_left (slice_index ends s) end in omega arith))
     (λ n. let h = raised_there ends s end o n in omega arith)
 
--- the site's end is at least the new one
+-- The site's end is at least the new one.
 raised_over : (ends : List ℕ) (s end : ℕ) → s < length ends → end ≤ slice_index (raised ends s end) s
 raised_over ends s end lt = let h = raised_here ends s end lt in let m = le-max_right (slice_index ends s) end in omega arith
 
 max_below : (a b n : ℕ) → a ≤ n → b ≤ n → max a b ≤ n
 max_below a b n x y = omega arith
 
--- what no end exceeded, none exceeds
+-- What no end exceeded, none exceeds.
 raised_few : (ends : List ℕ) (s end o n : ℕ) → s < length ends → slice_index ends o ≤ n → end ≤ n → slice_index (raised ends s end) o ≤ n
 raised_few ends s end o n lt a b = dite (ℕ_discrete o s)
     (λ e. let P : ℕ → Type 0 = λ x. slice_index ends x ≤ n → slice_index (raised ends s end) x ≤ n in
@@ -58,7 +58,7 @@ none_raised p = record {
   above = λ o low high. absurd (omega arith);
 }
 
--- one more site, whose own end is raised first, and then its parent's
+-- One more site, whose own end is raised first, and then its parent's.
 pub one_raised : (p : Plan) → IsPlan p → (ends : List ℕ) (t : ℕ) → t < site_count p → AreRaised p ends (t + 1) →
     let own = raised ends (t + 1) (t + 1) in
     AreRaised p (raised own (parent p (t + 1)) (slice_index own (t + 1))) t
@@ -89,7 +89,7 @@ one_raised p plan ends t lt is =
           let c = raised_there ends site site o n in let d = raised_there own q end o (λ z. omega arith) in omega arith);
     }
 
--- all sites have been visited: the ends rise towards each site around
+-- All sites have been visited: the ends rise towards each site around.
 pub all_raised : (p : Plan) → IsPlan p → (ends : List ℕ) → AreRaised p ends 0 → AreEnds p ends
 all_raised p plan ends is = record {
   size = is.size;
@@ -107,15 +107,15 @@ all_raised p plan ends is = record {
 
 -- ---- a read
 
--- what was read as a site's end is its end
+-- What was read as a site's end is its end.
 end_read : (p : Plan) (ends : List ℕ) (s e : ℕ) → AreEnds p ends → s ≤ site_count p → e ≡ slice_index_or ends s e → e ≡ slice_index ends s
 end_read p ends s e are high read = read ∙ any_default ends s e 0 (let z = are.size in omega arith)
 
--- it is a site, or 0
+-- It is a site, or 0.
 pub end_few : (p : Plan) (ends : List ℕ) (s e : ℕ) → AreEnds p ends → s ≤ site_count p → e ≡ slice_index_or ends s e → e ≤ site_count p
 end_few p ends s e are high read = let is = end_read p ends s e are high read in let few = are.few s in omega arith
 
--- and no greater site is within
+-- And no greater site is within.
 pub none_after : (p : Plan) (ends : List ℕ) (s e : ℕ) → AreEnds p ends → s ≤ site_count p → e ≡ slice_index_or ends s e → (j : ℕ) → e ≤ j → j < site_count p → is_within p s (1 + j) ≡ true → ⊥
 none_after p ends s e are high read j above small w =
     let is = end_read p ends s e are high read in let last = are.last s (1 + j) high (omega arith) w in omega arith

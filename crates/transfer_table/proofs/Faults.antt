@@ -213,7 +213,7 @@ beq-other true false e = λ z. cc
 beq-other false true e = λ z. cc
 beq-other false false e = absurd (cc)
 
--- one step of the scan, as in the code
+-- One step of the scan, as in the code.
 pub meant-goes : (f : ℕ → Bool) (ms : List Bool) (i : ℕ) (b m : Bool) → i < length ms → not (beq b m) ≡ false → b ≡ f (i + 1) → m ≡ get_or ms i false → unmeant f (drop i ms) (i + 1) ≡ unmeant f (drop (i + 1) ms) (i + 1 + 1)
 meant-goes f ms i b m lt test here there = next_meant f ms (i + 1) i false lt (sym here ∙ (beq-same b m test ∙ there))
 

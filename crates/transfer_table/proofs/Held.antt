@@ -12,7 +12,7 @@ use Rattle.transfer_table.specs.declared.entry.Entry.{Entry}
 use Rattle.transfer_table.proofs.Positions.{legal_position}
 use Rattle.transfer_table.proofs.Bounds.{legal_owner}
 
--- how many of the owners are at most s
+-- How many of the owners are at most s.
 up_to : List ℕ → ℕ → ℕ
 up_to os zero = count_by (λ q. q == 0) os
 up_to os (suc s) = up_to os s + count_by (λ q. q == suc s) os

@@ -19,7 +19,7 @@ way_up : (p : Plan) (s o : ℕ) → IsWithin p s o → o ≢ s → IsWithin p s 
 way_up p s o itself n = absurd (n refl)
 way_up p s o (child c site w) n = w
 
--- the site has a home inside
+-- The site has a home inside.
 abbrev pub HasHome : Plan → TableState → ℕ → Type 0
 HasHome p t s = (row t s).stage ≡ Live → (h : ℕ) × ((row t s).home ≡ Some h) × IsHart p h × IsWithin p s (owner t h)
 

@@ -32,7 +32,7 @@ nothing_left (x ∷ xs) ys e = absurd (cc)
 not_by : (h : ℕ) (e : Entry) → made_by h (e ∷ []) ≡ [] → h ≢ hart_of e
 not_by h e is = λ z. let w : made_by h (e ∷ []) ≡ e ∷ [] = rw (eq-eqb (hart_of e) h (sym z)) refl in absurd (cc)
 
--- the hart is in the base, and the home of no site
+-- The hart is in the base, and the home of no site.
 pub record IsIdle (p : Plan) (t : TableState) (h : ℕ) : Type 0 where
   pub base : owner t h ≡ 0
   pub homeless : (s : ℕ) → IsSite p s → (row t s).home ≢ Some h

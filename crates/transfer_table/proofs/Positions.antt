@@ -12,7 +12,7 @@ use Rattle.transfer_table.proofs.Admits.{admits, admits_skip, admitted}
 use Rattle.transfer_table.proofs.Replays.{kept, reaches-snoc}
 use Rattle.transfer_table.proofs.Sweeps.{length-swept}
 
--- a plan and a state that fit together
+-- A plan and a state that fit together.
 abbrev pub Fits : Plan → TableState → Type 0
 Fits p t = IsPosition record { plan = p; state = t }
 

@@ -8,7 +8,7 @@ use Rattle.transfer_table.specs.Journal.{Reaches, IsComplete}
 use Rattle.transfer_table.specs.declared.entry.Entry.{Entry}
 use Rattle.transfer_table.specs.Accounts.{AreOverAs, AreFresh, HasGrown, KeepsOutside, IsSpan}
 
--- Sites that have ended as meant stay so.
+-- Sites that have ended as meant stay ended as meant.
 abbrev pub OverLasts : Type 0
 OverLasts = (p : Plan) (before after : List Entry) (s : ℕ) (meant : List Bool)
     → HasGrown p before after → AreOverAs p before s meant → AreOverAs p after s meant
@@ -44,7 +44,7 @@ abbrev pub FreshLasts : Type 0
 FreshLasts = (p : Plan) (before after : List Entry) (s n t m : ℕ) → KeepsOutside p before after t m
     → (s + n ≤ t) ⊎ (t + m ≤ s) → AreFresh p before s n → AreFresh p after s n
 
--- Entries that touch only sites inside wider bounds touch nothing outside of them. So do two such lists after one another.
+-- Entries that touch only sites inside wider bounds touch nothing outside the bounds. The same holds of two such lists in sequence.
 abbrev pub KeptJoins : Type 0
 KeptJoins = (p : Plan) (first second third : List Entry) (s n t m u k : ℕ)
     → KeepsOutside p first second s n → KeepsOutside p second third t m
@@ -58,11 +58,11 @@ pub record TouchesLittle (p : Plan) (es : List Entry) (e : Entry) : Type 0 where
   pub span : (around s n : ℕ) → IsSpan p around s n → s ≤ site_of e → site_of e < s + n
       → KeepsOutside p es (es ++ e ∷ []) s n
 
--- Each entry, appended to any list, touches little.
+-- `TouchesLittle` holds of each entry, appended to any list.
 abbrev pub EntriesTouchLittle : Type 0
 EntriesTouchLittle = (p : Plan) (es : List Entry) (e : Entry) → IsPlan p → TouchesLittle p es e
 
--- If the topmost sites of a span were skipped, all its sites were.
+-- If the topmost sites of a span were skipped, all sites of the span have ended as sites that aren't meant.
 abbrev pub SpansAreSkippedByTheirTops : Type 0
 SpansAreSkippedByTheirTops =
     (p : Plan) (es : List Entry) (around s n : ℕ) → IsPlan p → IsSpan p around s n
@@ -76,7 +76,7 @@ pub record IsSkippedSpan (p : Plan) (before after : List Entry) (s n : ℕ) : Ty
   pub grown : HasGrown p before after
   pub outside : KeepsOutside p before after s n
 
--- A fresh span becomes so if only skips of its sites are made, and each topmost site is then registered or skipped.
+-- A fresh span becomes a skipped span if only skips of its sites are made, and each topmost site is then registered or skipped.
 abbrev pub FreshSpansAreSkipped : Type 0
 FreshSpansAreSkipped =
     (p : Plan) (before made : List Entry) (around s n : ℕ) → IsPlan p → IsSpan p around s n

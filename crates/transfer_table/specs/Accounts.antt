@@ -1,4 +1,4 @@
--- -- What entries show of sites: which sites have ended as they are meant to, and which are fresh.
+-- What entries show of sites: which sites have ended as meant, and which sites are fresh.
 use Rattle.std.specs.Prelude.{◌≡◌, ℕ, ◌+◌, ◌<◌, ◌≤◌, ◌⊎◌, Bool, true, false, List, [], ◌∷◌}
 use Rattle.transfer_table.specs.Plan.{Plan, IsSite, parent}
 use Rattle.transfer_table.specs.Entry.{registers, unregisters, skips_over}

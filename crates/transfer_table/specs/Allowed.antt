@@ -6,15 +6,15 @@ use Rattle.transfer_table.specs.declared.entry.Stage.TheVariants.{New, Live, Gon
 use Rattle.transfer_table.specs.declared.entry.Entry.{Entry}
 use Rattle.transfer_table.specs.declared.entry.Entry.TheVariants.{Register, Request, Enter, Yield, Unregister, Skip}
 
--- no other hart's owner is the site
+-- No other hart's owner is the site.
 abbrev pub IsAlone : Plan → TableState → ℕ → ℕ → Type 0
 IsAlone p t h s = (g : ℕ) → IsHart p g → g ≢ h → owner t g ≢ s
 
--- every child of the site is gone
+-- Every child of the site is gone.
 abbrev pub ChildrenGone : Plan → TableState → ℕ → Type 0
 ChildrenGone p t s = (c : ℕ) → IsSite p c → parent p c ≡ s → (row t c).stage ≡ Gone
 
--- the entry is allowed in the state
+-- The entry is allowed in the state.
 abbrev pub IsAllowed : Plan → TableState → Entry → Type 0
 IsAllowed p t (Register h s) =
     IsHart p h × IsSite p s × (owner t h ≡ parent p s) × ((row t s).stage ≡ New)

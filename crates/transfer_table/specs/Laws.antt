@@ -12,50 +12,50 @@ use Rattle.transfer_table.specs.declared.entry.Stage.TheVariants.{New, Live, Gon
 use Rattle.transfer_table.specs.declared.entry.Entry.{Entry}
 use Rattle.transfer_table.specs.declared.entry.Entry.TheVariants.{Register, Request, Enter, Yield, Unregister, Skip}
 
--- it is the base, or a live site
+-- The number is that of the base or of a live site.
 abbrev pub IsBaseOrLive : Plan → TableState → ℕ → Type 0
 IsBaseOrLive p t o = (o ≡ 0) ⊎ (IsSite p o × ((row t o).stage ≡ Live))
 
--- how many harts the site, or the base, holds
+-- The number of harts that the site or the base holds.
 abbrev pub harts_in : TableState → ℕ → ℕ
 harts_in t o = count_by (λ q. q == o) t.owners
 
--- how many harts the base and the sites up to s hold
+-- The number of harts that the base and the sites up to s hold.
 abbrev pub harts_up_to : TableState → ℕ → ℕ
 harts_up_to t zero = harts_in t 0
 harts_up_to t (suc s) = harts_up_to t s + harts_in t (suc s)
 
--- every owner is the base or a live site, and the harts that the base and the sites hold are all harts
+-- Every owner is the base or a live site, and the harts that the base and the sites hold add up to all harts.
 abbrev pub HartsAreConserved : Type 0
 HartsAreConserved = (p : Plan) (es : List Entry) (t : TableState) → IsPlan p → Reaches p es t
     → ((h : ℕ) → IsHart p h → IsBaseOrLive p t (owner t h))
     × (harts_up_to t (site_count p) ≡ p.harts)
 
--- the parent of a live site is the base or live, and every child of a gone site is gone
+-- The parent of a live site is the base or live, and every child of a gone site is gone.
 abbrev pub ParentsOutliveChildren : Type 0
 ParentsOutliveChildren = (p : Plan) (es : List Entry) (t : TableState) → IsPlan p → Reaches p es t
     → ((s : ℕ) → IsSite p s → (row t s).stage ≡ Live → IsBaseOrLive p t (parent p s))
     × ((s c : ℕ) → IsSite p s → IsSite p c → parent p c ≡ s → (row t s).stage ≡ Gone
     → (row t c).stage ≡ Gone)
 
--- The test holds exactly of what is within a site.
+-- `is_within` holds exactly of the sites within a site.
 abbrev pub WithinIsTested : Type 0
 WithinIsTested = (p : Plan) (s o : ℕ) → IsPlan p → IsSite p s → IsSite p o
     → (is_within p s o ≡ true) ↔ IsWithin p s o
 
--- every child of a new site is new
+-- Every child of a new site is new.
 abbrev pub ChildrenOfNewAreNew : Type 0
 ChildrenOfNewAreNew = (p : Plan) (es : List Entry) (t : TableState) → IsPlan p → Reaches p es t
     → (s c : ℕ) → IsSite p s → IsSite p c → parent p c ≡ s → (row t s).stage ≡ New
     → (row t c).stage ≡ New
 
--- the home of a live site is a hart whose owner is the site or a descendant of it
+-- The home of a live site is a hart whose owner is the site or a descendant of it.
 abbrev pub HomesStayInside : Type 0
 HomesStayInside = (p : Plan) (es : List Entry) (t : TableState) → IsPlan p → Reaches p es t
     → (s : ℕ) → IsSite p s → (row t s).stage ≡ Live
     → (h : ℕ) × ((row t s).home ≡ Some h) × IsHart p h × IsWithin p s (owner t h)
 
--- a request is by the site's home; other entries may be by any hart
+-- A request is by the site's home; other entries may be by any hart.
 abbrev pub IsByHome : TableState → Entry → Type 0
 IsByHome t (Register h s) = Unit {0}
 IsByHome t (Request h s k) = (row t s).home ≡ Some h
@@ -64,20 +64,20 @@ IsByHome t (Yield h s) = Unit {0}
 IsByHome t (Unregister h s) = Unit {0}
 IsByHome t (Skip h s) = Unit {0}
 
--- only the site's home requests; a site's enters and wishes add up to the harts that it requested, at most all but one
+-- Only the site's home requests; a site's enters and wishes add up to the harts that it requested, at most all but one.
 abbrev pub WishesBalance : Type 0
 WishesBalance = (p : Plan) (es : List Entry) (t : TableState) → IsPlan p → Reaches p es t
     → All (IsByHome t) es
     × ((s : ℕ) → IsSite p s → (enters s es + (row t s).wishes ≡ (row t s).asked)
     × ((row t s).asked ≡ requested s es) × ((row t s).asked ≤ p.harts - 1))
 
--- a legal list has at most three entries for each site and hart, less one for each site
+-- A legal list has at most three entries for each site and hart, less one for each site.
 abbrev pub LegalListsAreShort : Type 0
 LegalListsAreShort = (p : Plan) (es : List Entry) → IsPlan p → IsLegal p es
     → length es ≤ room p
 
--- What the row of a site shows of the entries: it was registered at most once, and then it has a home; if it is gone and has a
--- home, it was unregistered once; if it is gone and has none, one entry skipped it, by itself or with a site around it.
+-- The row of a site counts the entries. A site with a home was registered once, and any other site never. A gone site with a home
+-- was unregistered once. One entry skipped a gone site without a home, by itself or with a site around it.
 pub record IsCounted (p : Plan) (es : List Entry) (t : TableState) (s : ℕ) : Type 0 where
   pub came : registers s es ≡ (if is_some (row t s).home then 1 else 0)
   pub went : unregisters s es
@@ -85,14 +85,14 @@ pub record IsCounted (p : Plan) (es : List Entry) (t : TableState) (s : ℕ) : T
   pub skipped : skips_over p s es
       ≡ (if (is_gone (row t s).stage && not (is_some (row t s).home)) then 1 else 0)
 
--- In each reachable state, the rows count the entries so.
+-- In each reachable state, `IsCounted` holds of every site.
 abbrev pub RowsReportEntries : Type 0
 RowsReportEntries = (p : Plan) (es : List Entry) (t : TableState) → IsPlan p → Reaches p es t
     → (s : ℕ) → IsSite p s → IsCounted p es t s
 
--- How a site begins and ends, by its own entries: it is registered or skipped at most once; a new site is neither, a live one
--- is registered; what was unregistered, or skipped itself, is gone. A gone site that was neither registered nor skipped itself
--- was skipped with a site around it, so its parent is a site that is gone.
+-- A site is registered or skipped at most once. A new site is neither registered nor skipped, and a live site is registered. A
+-- site that was unregistered, or skipped itself, is gone. A gone site that was neither registered nor skipped itself was skipped
+-- with a site around it, so its parent is a gone site.
 pub record BeginsOnce (p : Plan) (es : List Entry) (t : TableState) (s : ℕ) : Type 0 where
   pub once : registers s es + skips s es ≤ 1
   pub fresh : (row t s).stage ≡ New → (registers s es + skips s es ≡ 0) × (unregisters s es ≡ 0)
@@ -103,24 +103,24 @@ pub record BeginsOnce (p : Plan) (es : List Entry) (t : TableState) (s : ℕ) : 
   pub left_out : (row t s).stage ≡ Gone → registers s es + skips s es ≡ 0
       → IsSite p (parent p s) × ((row t (parent p s)).stage ≡ Gone)
 
--- In each reachable state, each site has begun at most once in this way.
+-- In each reachable state, `BeginsOnce` holds of every site.
 abbrev pub SitesBeginOnce : Type 0
 SitesBeginOnce = (p : Plan) (es : List Entry) (t : TableState) → IsPlan p → Reaches p es t
     → (s : ℕ) → IsSite p s → BeginsOnce p es t s
 
--- of a meant site: it was registered once and unregistered once, and no entry skips it or a site around it
+-- The site was registered once and unregistered once, and no entry skips the site or a site around it.
 pub record CameAndWent (p : Plan) (es : List Entry) (s : ℕ) : Type 0 where
   pub came : registers s es ≡ 1
   pub went : unregisters s es ≡ 1
   pub kept : skips_over p s es ≡ 0
 
--- of another one: it was never registered, and one entry skips it, or a site around it
+-- The site was never registered, and one entry skips the site or a site around it.
 pub record WasSkipped (p : Plan) (es : List Entry) (s : ℕ) : Type 0 where
   pub never_came : registers s es ≡ 0
   pub never_went : unregisters s es ≡ 0
   pub skipped : skips_over p s es ≡ 1
 
--- In a complete list every owner is the base at the end, each meant site came and went once, and each other one was skipped
+-- At the end of a complete list every owner is the base, each meant site came and went once, and each other site was skipped
 -- once.
 abbrev pub SitesComeAndGoOnce : Type 0
 SitesComeAndGoOnce = (p : Plan) (meant : List Bool) (es : List Entry) (t : TableState) → IsPlan p
@@ -129,11 +129,11 @@ SitesComeAndGoOnce = (p : Plan) (meant : List Bool) (es : List Entry) (t : Table
     × ((s : ℕ) → IsSite p s → is_meant meant s ≡ true → CameAndWent p es s)
     × ((s : ℕ) → IsSite p s → is_meant meant s ≡ false → WasSkipped p es s)
 
--- each prefix of a legal list is legal
+-- Each prefix of a legal list is legal.
 abbrev pub PrefixesAreLegal : Type 0
 PrefixesAreLegal = (p : Plan) (xs ys : List Entry) → IsLegal p (xs ++ ys) → IsLegal p xs
 
--- the table admits an entry exactly if the entry is allowed, and then the entry has its effect
+-- The table admits an entry exactly if the entry is allowed, and then the entry has its effect.
 abbrev pub AllowedIsAdmitted : Type 0
 AllowedIsAdmitted = (p : Plan) (t : TableState) (e : Entry) → IsPosition record {
   plan = p;
@@ -142,21 +142,21 @@ AllowedIsAdmitted = (p : Plan) (t : TableState) (e : Entry) → IsPosition recor
     → (IsAllowed p t e → admit_of p t e ≡ Ok (effect_of p t e))
     × ((u : TableState) → admit_of p t e ≡ Ok u → IsAllowed p t e × (u ≡ effect_of p t e))
 
--- its hart and its site are the plan's, and it requests fewer harts than there are
+-- The hart and the site of the entry are the plan's, and the entry requests fewer harts than the plan has.
 abbrev pub IsEntryOf : Plan → Entry → Type 0
 IsEntryOf p e = IsHart p (hart_of e) × IsSite p (site_of e) × (count_of e ≤ p.harts - 1)
 
--- every entry of a legal list is in the plan
+-- Every entry of a legal list is an entry of the plan.
 abbrev pub EntriesAreInThePlan : Type 0
 EntriesAreInThePlan = (p : Plan) (es : List Entry) (t : TableState) → IsPlan p → Reaches p es t
     → All (IsEntryOf p) es
 
--- the row of a new site is blank
+-- The row of a new site is blank.
 abbrev pub NewRowsAreBlank : Type 0
 NewRowsAreBlank = (p : Plan) (es : List Entry) (t : TableState) → IsPlan p → Reaches p es t
     → (s : ℕ) → IsSite p s → (row t s).stage ≡ New → row t s ≡ blank
 
--- a hart that made no entry is in the base, and the home of no site
+-- A hart that made no entry is in the base, and the home of no site.
 abbrev pub IdleHartsStay : Type 0
 IdleHartsStay = (p : Plan) (es : List Entry) (t : TableState) → IsPlan p → Reaches p es t
     → (h : ℕ) → made_by h es ≡ []

@@ -9,7 +9,7 @@ use Rattle.turn_sched.specs.Ring.{RingParts, has_place, wishing_more, with_more,
 use Rattle.turn_sched.specs.Turns.{ring_by}
 use Rattle.turn_sched.specs.Rounds.{how_often, ahead_of}
 
--- a sum over children
+-- A sum over children.
 abbrev pub weigh : (ℕ → ℕ) → List ℕ → ℕ
 weigh f [] = 0
 weigh f (c ∷ cs) = f c + weigh f cs
@@ -30,7 +30,7 @@ pub length_weighs : (cs : List ℕ) → length cs ≡ weigh (λ c. 1) cs
 length_weighs [] = refl
 length_weighs (c ∷ cs) = let rest = length_weighs cs in omega (arith, rest)
 
--- the children that have a place
+-- The children that have a place.
 abbrev pub children : List Place → List ℕ
 children [] = []
 children (p ∷ ps) = p.child ∷ children ps
@@ -161,7 +161,7 @@ wishes_by_cases P child count ring same more new = none (count == 0)
     none true = same
     none false = has (has_place child ring.places) refl
 
--- a child that has a place keeps it, and no more are ahead of it
+-- A child that has a place keeps it, and no more are ahead of it.
 pub record Keeps (x : ℕ) (before after : List Place) : Type 0 where
   pub has : has_place x after ≡ true
   pub ahead : (f : ℕ → ℕ) → weigh f (ahead_of x after) ≤ weigh f (ahead_of x before)
@@ -198,7 +198,7 @@ turn_keeps x y (p ∷ ps) qs has turn other = (
     there : has_place x ps ≡ true
     there = sym (ap (λ b. b || has_place x ps) apart) ∙ has
 
--- each child has at most one place
+-- Each child has at most one place.
 abbrev pub HasOneEach : List Place → Type 0
 HasOneEach ps = (c : ℕ) → how_often c (children ps) ≤ 1
 

@@ -48,7 +48,7 @@ pub(crate) fn has(board: &WideBoard, clock: u64, site: u64) -> bool
     board.peek(0) == clock && board.peek(1) == site
 }
 
-// Whether one hart registers the site and requests two, of whom one comes then and not before.
+// Whether one hart registers the site and requests two harts, and one other hart enters after the request and not before.
 fn has_come(board: &WideBoard, home: &mut WideSeat, guest: &mut WideSeat) -> bool
     requires plan { (board.now.plan.parents ≡ 0 ∷ []) × (3 ≤ board.now.plan.harts) }
     requires of { IsOf board.now home.old × IsOf board.now guest.old }

@@ -1,5 +1,5 @@
--- Reading tokens one after another, with what is under way kept in a state. The machine says nothing that the grammar
--- doesn't: what it reads is what the grammar spells. It finds the position at which a text first goes wrong.
+-- A machine that reads tokens one after another and keeps the unfinished parts in its state. The machine reads exactly the
+-- programs that the grammar spells, and finds the first token with which no program goes on.
 use Rattle.std.specs.Prelude.{ℕ, zero, suc, ℤ, pos, neg_ℤ, List, [], ◌∷◌, ◌++◌, Option, Some, None, Result, Ok, Err}
 use Rattle.array_tokens.specs.Lexemes.{Lexeme, name, number, word, sign, Spot}
 use Rattle.array_tokens.specs.declared.token.Word.TheVariants as words
@@ -10,67 +10,67 @@ use Rattle.array_lang.specs.Grammar.{operator_of}
 use Rattle.array_lang.specs.declared.operator.Strength.{Strength}
 use Rattle.array_lang.specs.declared.operator.Strength.TheVariants.{Comparison as comparison, Addition as addition, Product as product}
 
--- a left operand and its operator, which wait for a right operand
+-- A left operand and its operator, which wait for a right operand.
 abbrev pub Left : Type 0
 Left = Option (Expression × Op)
 
--- the expression under way: what waits at each strength, and minus signs
+-- An unfinished expression: the left operand that waits at each strength, and the number of minus signs before the operand.
 pub record Level : Type 0 where
   pub compare : Left
   pub sum : Left
   pub term : Left
   pub minus : ℕ
 
--- an expression of which nothing is read
+-- An expression of which no token is read.
 abbrev pub fresh : Level
 fresh = record { compare = None; sum = None; term = None; minus = 0 }
 
--- the expression x, joined to the waiting left side
+-- The expression x, joined to the waiting left side.
 abbrev pub joined : Left → Expression → Expression
 joined None x = x
 joined (Some w) x = Binary w.1 w.0 x
 
--- the expression x under n minus signs
+-- The expression x under n minus signs.
 abbrev pub negs : ℕ → Expression → Expression
 negs zero x = x
 negs (suc n) x = negs n (Neg x)
 
--- the term that ends with the operand x
+-- The term that ends with the operand x.
 abbrev pub term_value : Level → Expression → Expression
 term_value l x = joined l.term (negs l.minus x)
 
--- what an expression stands in, inside another one
+-- What contains an inner expression: a group or an index, with the unfinished expression around.
 pub data Outer : Type 0 where
   group : (l : Level) → Outer
   index : (b : List ℕ) (l : Level) → Outer
 
--- what an outermost expression is
+-- The use of an outermost expression: the index of a target, the value of an assignment, or a condition.
 pub data Top : Type 0 where
   target : (line : ℕ) (b : List ℕ) → Top
   value : (line : ℕ) (b : List ℕ) (i : Expression) → Top
   condition : (line : ℕ) → Top
 
--- an operand; after a name an index may follow
+-- An operand. After a name, an index may follow.
 pub data Operand : Type 0 where
   bare : (x : Expression) → Operand
   called : (b : List ℕ) → Operand
 
--- the expression of an operand
+-- The expression of an operand.
 abbrev pub operand_value : Operand → Expression
 operand_value (bare x) = x
 operand_value (called b) = Var b
 
--- the two statements that have a range
+-- The two statements that have a range.
 pub data Ranged : Type 0 where
   looping : Ranged
   teaming : Ranged
 
--- which bound of a range is read
+-- The bound of a range that is read.
 pub data Slot : Type 0 where
   low_of : (r : Ranged) (line : ℕ) (b : List ℕ) → Slot
   high_of : (r : Ranged) (line : ℕ) (b : List ℕ) (low : ℤ) → Slot
 
--- a team without its phases
+-- A team without its phases.
 pub record Crew : Type 0 where
   pub line : ℕ
   pub var : List ℕ
@@ -78,11 +78,11 @@ pub record Crew : Type 0 where
   pub high : ℤ
   pub members : ℤ
 
--- the team with these phases
+-- The team with these phases.
 abbrev pub team_of : Crew → List Sequence → Statement
 team_of c ps = Team c.line c.var c.low c.high c.members (sequences ps)
 
--- a position inside a declaration, or before the first block of a `for` or a `team`, by what comes next
+-- A position inside a declaration, or before the first block of a `for` or a `team`, named by the token that comes next.
 pub data Position : Type 0 where
   array_name : (line : ℕ) → Position
   array_open : (line : ℕ) (b : List ℕ) → Position
@@ -97,8 +97,8 @@ pub data Position : Type 0 where
   range_over : (r : Ranged) (line : ℕ) (b : List ℕ) (low high : ℤ) → Position
   team_members : (line : ℕ) (b : List ℕ) (low high : ℤ) → Position
 
--- what comes next; a closed block of a choice or of a team may be followed by `else` or `barrier`, or by what follows its
--- statement
+-- What the machine expects next. After a closed block of a choice or of a team, `else` or `barrier` may follow, or a token that
+-- may follow the statement.
 pub data Mode : Type 0 where
   declaring : Mode
   statement : Mode
@@ -115,7 +115,7 @@ pub data Mode : Type 0 where
   phase_open : (c : Crew) (ps : List Sequence) → Mode
   phase_closed : (c : Crew) (ps : List Sequence) (p : Sequence) → Mode
 
--- what a block is a part of
+-- The statement that a block is a part of, as far as the statement is read.
 pub data Branch : Type 0 where
   then_side : (line : ℕ) (x : Expression) → Branch
   else_side : (line : ℕ) (x : Expression) (p : Sequence) → Branch
@@ -123,43 +123,43 @@ pub data Branch : Type 0 where
   in_par : (line : ℕ) (ps : List Sequence) → Branch
   in_team : (c : Crew) (ps : List Sequence) → Branch
 
--- a block around, with the statements before
+-- A block around the current one, with the statements read before the current block.
 pub record Frame : Type 0 where
   pub before : List Statement
   pub branch : Branch
 
--- the declarations, the statements of this block so far, and the blocks around
+-- The declarations, the statements of the current block so far, and the blocks around it.
 pub record Nest : Type 0 where
   pub arrays : List Declaration
   pub done : List Statement
   pub frames : List Frame
 
--- the nest of these parts
+-- The nest of these parts.
 abbrev pub nest : List Declaration → List Statement → List Frame → Nest
 nest ds d f = record { arrays = ds; done = d; frames = f }
 
--- the machine's state: its mode and its nest
+-- The machine's state: its mode and its nest.
 pub record State : Type 0 where
   pub mode : Mode
   pub nest : Nest
 
--- the state of these parts
+-- The state of these parts.
 abbrev pub state : Mode → Nest → State
 state m n = record { mode = m; nest = n }
 
--- the nest with one more declaration
+-- The nest with one more declaration.
 abbrev pub with_array : Nest → Declaration → Nest
 with_array n d = nest (n.arrays ++ d ∷ []) n.done n.frames
 
--- the nest with one more statement
+-- The nest with one more statement.
 abbrev pub with_done : Nest → Statement → Nest
 with_done n c = nest n.arrays (n.done ++ c ∷ []) n.frames
 
--- the state after a block has opened
+-- The state after a block has opened.
 abbrev pub opened : Nest → Branch → State
 opened n b = state statement (nest n.arrays [] (record { before = n.done; branch = b } ∷ n.frames))
 
--- the state after a token that ends an outermost expression, if it may come
+-- The state after a token that ends an outermost expression; none if another token comes.
 abbrev pub ends : Nest → Expression → Top → Lexeme → Option State
 ends n x (target line b) (sign signs.CloseIndex) = Some (state (equals line b x) n)
 ends n x (value line b i) (sign signs.Semicolon) =
@@ -167,7 +167,7 @@ ends n x (value line b i) (sign signs.Semicolon) =
 ends n x (condition line) (sign signs.OpenBlock) = Some (opened n (then_side line x))
 ends n x top l = None
 
--- the state after a token that closes a group or an index, or ends the expression
+-- The state after a token that closes a group or an index, or ends the outermost expression; none if another token comes.
 abbrev pub closes : Nest → Expression → List Outer → Top → Lexeme → Option State
 closes n x [] top l = ends n x top l
 closes n x (group o ∷ outers) top (sign signs.CloseGroup) =
@@ -176,7 +176,7 @@ closes n x (index b o ∷ outers) top (sign signs.CloseIndex) =
     Some (state (after (bare (Read b x)) o outers top) n)
 closes n x (o ∷ outers) top l = None
 
--- what comes after the term x, which stands to the right of what waits
+-- The state after a token that follows the term x, by the operator that the token is; the operands c and s wait for x.
 abbrev pub goes_on : Nest → Left → Left → Expression → List Outer → Top → Lexeme
     → Option (Strength × Op) → Option State
 goes_on n c s x outers top l (Some (product, op)) =
@@ -203,14 +203,14 @@ goes_on n None s x outers top l (Some (comparison, op)) =
 goes_on n (Some c) s x outers top l (Some (comparison, op)) = None
 goes_on n c s x outers top l None = closes n (joined c (joined s x)) outers top l
 
--- the state after a token that follows an operand
+-- The state after a token that follows an operand.
 abbrev pub step_after : Nest → Operand → Level → List Outer → Top → Lexeme → Option State
 step_after n (called b) l outers top (sign signs.OpenIndex) =
     Some (state (operand fresh (index b l ∷ outers) top) n)
 step_after n x l outers top t =
     goes_on n l.compare l.sum (term_value l (operand_value x)) outers top t (operator_of t)
 
--- the state after a token in place of an operand
+-- The state after a token where an operand begins.
 abbrev pub step_operand : Nest → Level → List Outer → Top → Lexeme → Option State
 step_operand n l outers top (number v) = Some (state (after (bare (Number (pos v))) l outers top) n)
 step_operand n l outers top (name b) = Some (state (after (called b) l outers top) n)
@@ -225,7 +225,7 @@ step_operand n l outers top (sign signs.OpenGroup) =
     Some (state (operand fresh (group l ∷ outers) top) n)
 step_operand n l outers top t = None
 
--- after a block, which is closed
+-- The state after a closed block.
 abbrev pub close_into : Nest → Branch → Sequence → State
 close_into n (then_side line x) p = state (closed line x p) n
 close_into n (else_side line x q) p = state statement (with_done n (If line x q p))
@@ -233,13 +233,13 @@ close_into n (in_for line b low high) p = state statement (with_done n (For line
 close_into n (in_par line ps) p = state (par_side line ps p) n
 close_into n (in_team c ps) p = state (phase_closed c ps p) n
 
--- the state after the `}` of a block
+-- The state after the `}` of a block.
 abbrev pub close_block : List Declaration → List Statement → List Frame → Option State
 close_block ds done [] = None
 close_block ds done (f ∷ frames) =
     Some (close_into (nest ds f.before frames) f.branch (sequence done))
 
--- the state after a token that begins a statement
+-- The state after a token that begins a statement.
 abbrev pub step_statement : Nest → ℕ → Lexeme → Option State
 step_statement n line (name b) = Some (state (array line b) n)
 step_statement n line (word words.For) = Some (state (header (range_name looping line)) n)
@@ -249,12 +249,12 @@ step_statement n line (word words.Team) = Some (state (header (range_name teamin
 step_statement n line (sign signs.CloseBlock) = close_block n.arrays n.done n.frames
 step_statement n line t = None
 
--- after a bound, which is read
+-- The position after a bound.
 abbrev pub bounded : Slot → ℤ → Position
 bounded (low_of r line b) v = range_dots r line b v
 bounded (high_of r line b low) v = range_over r line b low v
 
--- the state after a token of a declaration's or a statement's head
+-- The state after a token of a declaration's or a statement's head.
 abbrev pub step_header : Position → Nest → Lexeme → Option State
 step_header (array_name line) n (name b) = Some (state (header (array_open line b)) n)
 step_header (array_open line b) n (sign signs.OpenIndex) =
@@ -286,7 +286,7 @@ step_header (team_members line b low high) n (number v) =
     }) []) n)
 step_header at n t = None
 
--- the state after a token, in any mode
+-- The state after a token, in any mode.
 abbrev pub step : Mode → Nest → ℕ → Lexeme → Option State
 step declaring n line (word words.Array) = Some (state (header (array_name line)) n)
 step declaring n line t = step_statement n line t
@@ -316,11 +316,11 @@ step (phase_closed c ps p) n line (word words.Barrier) =
     Some (state (phase_open c (ps ++ p ∷ [])) n)
 step (phase_closed c ps p) n line t = step_statement (with_done n (team_of c (ps ++ p ∷ []))) line t
 
--- the program of these declarations and statements
+-- The program of these declarations and statements.
 abbrev pub program : List Declaration → List Statement → ProgramTree
 program ds done = record { arrays = ds; body = sequence done }
 
--- the program, if the tokens end here
+-- The program, if the tokens end here.
 abbrev pub at_end : Mode → List Declaration → List Statement → List Frame
     → Result ProgramTree (List Spot)
 at_end declaring ds done [] = Ok (program ds done)
@@ -329,21 +329,21 @@ at_end (closed line x p) ds done [] = Ok (program ds (done ++ If line x p ended 
 at_end (phase_closed c ps p) ds done [] = Ok (program ds (done ++ team_of c (ps ++ p ∷ []) ∷ []))
 at_end m ds done frames = Err []
 
--- the result from the next state on, or an error at this token
+-- The result from the next state on, or an error at this token.
 abbrev pub continued : Option State → (State → Result ProgramTree (List Spot)) → List Spot
     → Result ProgramTree (List Spot)
 continued None go here = Err here
 continued (Some s) go here = go s
 
--- the program, or the tokens from the first that can't come
+-- The program, or the tokens from the first with which no program goes on.
 abbrev pub run : Mode → Nest → List Spot → Result ProgramTree (List Spot)
 run m n [] = at_end m n.arrays n.done n.frames
 run m n (t ∷ ts) = continued (step m n t.line t.lexeme) (λ s. run s.mode s.nest ts) (t ∷ ts)
 
--- the nest before the first token
+-- The nest before the first token.
 abbrev pub top_nest : Nest
 top_nest = nest [] [] []
 
--- the result of the machine over all tokens
+-- The result of the machine over all tokens.
 abbrev pub parse_of : List Spot → Result ProgramTree (List Spot)
 parse_of tokens = run declaring top_nest tokens

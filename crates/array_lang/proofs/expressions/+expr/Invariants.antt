@@ -19,14 +19,14 @@ decreases-factor l = 4 * length (spots l.tokens.now)
 abbrev pub decreases-after_name : goal.decreases-after_name
 decreases-after_name l = 4 * length (spots l.tokens.now)
 
--- the terms so far
+-- The terms so far.
 abbrev pub invariant-sum-loop-op : goal.invariant-sum-loop-op
 invariant-sum-loop-op l = TakesSum 2 (spots l.tokens) (spots l.rest) (expression_of l.left)
 
 abbrev pub decreases-sum-loop-op : goal.decreases-sum-loop-op
 decreases-sum-loop-op l = length (spots l.rest)
 
--- the factors so far
+-- The factors so far.
 abbrev pub invariant-term-loop-op : goal.invariant-term-loop-op
 invariant-term-loop-op l = TakesTerm 3 (spots l.tokens) (spots l.rest) (expression_of l.left)
 

@@ -4,7 +4,7 @@ use Rattle.array_lang.specs.Parsing.Machine.{declaring, state}
 use Rattle.array_lang.specs.Parsing.Reading.{Takes1, declared_all, declaration_list}
 use Rattle.array_lang.proofs.program.declarations.Given as goal
 
--- the declarations so far
+-- The declarations so far.
 abbrev pub invariant-loop-line : goal.invariant-loop-line
 invariant-loop-line l = Takes1 0 (state declaring) (declared_all (declaration_list l.found.items)) (spots l.tokens) (spots l.rest)
 

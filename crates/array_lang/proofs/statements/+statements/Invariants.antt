@@ -31,21 +31,21 @@ decreases-statements l = 4 * length (spots l.tokens.now) + 1
 abbrev pub decreases-statement : goal.decreases-statement
 decreases-statement l = 4 * length (spots l.tokens.now)
 
--- the statements so far
+-- The statements so far.
 abbrev pub invariant-statements-each : goal.invariant-statements-each
 invariant-statements-each l = Takes1 0 (state statement) (behind_all (statements_of l.found.items)) (spots l.tokens) (spots l.rest)
 
 abbrev pub decreases-statements-each : goal.decreases-statements-each
 decreases-statements-each l = length (spots l.rest)
 
--- the branches so far
+-- The branches so far.
 abbrev pub invariant-par-each : goal.invariant-par-each
 invariant-par-each l = TakesBranches l.line (spots l.tokens) (spots l.rest) (sequence_list l.blocks.items)
 
 abbrev pub decreases-par-each : goal.decreases-par-each
 decreases-par-each l = length (spots l.rest)
 
--- the phases so far
+-- The phases so far.
 abbrev pub invariant-phases-each : goal.invariant-phases-each
 invariant-phases-each l = TakesPhases (spots l.tokens) (spots l.rest) (sequence_list l.phases.items)
 

@@ -3,6 +3,6 @@ use Rattle.clap.specs.Words.{app_of}
 use Rattle.command_words.proofs.Apps.{with_all}
 use Rattle.command_words.proofs.app.commands.Given as goal
 
--- the commands so far
+-- The commands so far.
 abbrev pub invariant-loop-name : goal.invariant-loop-name
 invariant-loop-name l = app_of l.app ≡ with_all (take l.name-index l.name-items)

@@ -11,7 +11,7 @@ use Rattle.transfer_table.specs.AccountLaws.{IsSkippedSpan}
 use Rattle.transfer_table.proofs.Spans.{fresh_spans_are_skipped}
 use Rattle.hart_work.proofs.serving.skip_span.Goals as goal
 
--- the same skips, by the number of sites
+-- The same skips, by the number of sites.
 abbrev IsWithin : ℕ → ℕ → Entry → Type 0
 IsWithin first n e = (is_skip e ≡ true) × (first ≤ site_of e) × (site_of e < first + n)
 

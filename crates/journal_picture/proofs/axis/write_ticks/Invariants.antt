@@ -2,7 +2,7 @@ use Rattle.std.proofs.Common.{◌≡◌, ◌++◌, drop, string_bytes}
 use Rattle.journal_picture.specs.SvgMarks.{ticks_text}
 use Rattle.journal_picture.proofs.axis.write_ticks.Given as goal
 
--- the text so far, and what is at the other entries
+-- The text so far, and what is at the other entries.
 abbrev pub invariant-loop-k : goal.invariant-loop-k
 invariant-loop-k l =
     string_bytes l.text ++ ticks_text l.plan l.end l.k (drop l.k l.list) ≡ string_bytes l.fn.text ++ ticks_text l.plan l.end 0 l.list

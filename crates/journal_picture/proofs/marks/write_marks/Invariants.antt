@@ -2,7 +2,7 @@ use Rattle.std.proofs.Common.{◌≡◌, ◌++◌, drop, string_bytes}
 use Rattle.journal_picture.specs.SvgMarks.{marks_text}
 use Rattle.journal_picture.proofs.marks.write_marks.Given as goal
 
--- the text so far, and the marks of the other entries
+-- The text so far, and the marks of the other entries.
 abbrev pub invariant-loop-k : goal.invariant-loop-k
 invariant-loop-k l =
     string_bytes l.text ++ marks_text l.board.plan l.board.state l.end l.k (drop l.k l.list) ≡ string_bytes l.fn.text ++ marks_text l.board.plan l.board.state l.end 0 l.list

@@ -10,7 +10,7 @@ use Rattle.journal_picture.proofs.Turns.{strip_more}
 use Rattle.journal_picture.proofs.Written.{turn}
 use Rattle.journal_picture.proofs.marks.write_strip.Goals as goal
 
--- the figures of this place are written, and the table goes on by its entry
+-- The figures of this place are written, and the table goes on by its entry.
 pub loop-k-preserved : goal.loop-k-preserved
 loop-k-preserved c =
     let p = c.args.plan.now in
@@ -32,7 +32,7 @@ loop-k-preserved c =
       c.admit_and_follow-wishing.ensures.within,
     )
 
--- behind the last entry the figures of the last place are written
+-- Behind the last entry the figures of the last place are written.
 pub returns : goal.returns
 returns c =
     let p = c.args.plan.now in

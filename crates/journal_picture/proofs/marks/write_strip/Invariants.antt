@@ -4,7 +4,7 @@ use Rattle.journal_picture.specs.Strip.{HasWishesWithin}
 use Rattle.journal_picture.specs.SvgMarks.{strip_svg}
 use Rattle.journal_picture.proofs.marks.write_strip.Given as goal
 
--- the plan stays; the text so far, and the strip from here on; where the wishes are
+-- The plan stays; the text so far, and the strip from here on; where the wishes are.
 abbrev pub invariant-loop-k : goal.invariant-loop-k
 invariant-loop-k l =
     (l.board.plan ≡ l.plan)

@@ -7,7 +7,7 @@ use Rattle.journal_picture.proofs.Wishes.{wishes_grow}
 use Rattle.journal_picture.proofs.strip.admit_and_follow.Goals as goal
 use Rattle.journal_picture.proofs.strip.admit_and_follow.Goals.{then-place-wishing, else-place-wishing, then-wishing-place, else-wishing-place}
 
--- the range that has the entry's site too has all wishes after the entry
+-- The range that has the entry's site too has all wishes after the entry.
 pub first_wish-requires : goal.first_wish-requires
 first_wish-requires c =
     let old = c.args.board.now in

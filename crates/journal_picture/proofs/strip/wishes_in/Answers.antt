@@ -4,7 +4,7 @@ use Rattle.journal_picture.specs.Strip.{unmet_up_to, wishing_up_to}
 use Rattle.journal_picture.proofs.Wishes.{unmet_level, wishing_level}
 use Rattle.journal_picture.proofs.strip.wishes_in.Goals as goal
 
--- the sites below the range add nothing
+-- The sites below the range add nothing.
 pub loop-i-init : goal.loop-i-init
 loop-i-init c =
     let p = c.args.board.now.plan in
@@ -16,7 +16,7 @@ loop-i-init c =
       c.requires.order,
     )
 
--- nor do those above it
+-- Nor do those above it.
 pub returns-clause-unmet : goal.returns-clause-unmet
 returns-clause-unmet c =
     let p = c.args.board.now.plan in

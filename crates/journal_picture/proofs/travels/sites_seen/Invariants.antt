@@ -3,7 +3,7 @@ use Rattle.std.specs.Prelude.{◌||◌}
 use Rattle.journal_picture.specs.Travels.{is_visited}
 use Rattle.journal_picture.proofs.travels.sites_seen.Given as goal
 
--- the marked sites, and those of the stays that are to come
+-- The marked sites, and those of the stays that are to come.
 abbrev pub invariant-loop-stay : goal.invariant-loop-stay
 invariant-loop-stay l =
     (length l.seen.items ≡ l.sites)

@@ -2,7 +2,7 @@ use Rattle.std.proofs.Common.{◌≡◌, ◌++◌, ◌+◌, drop, string_bytes}
 use Rattle.journal_picture.specs.TextPicture.{site_lines}
 use Rattle.journal_picture.proofs.tree.write_sites.Given as goal
 
--- the text so far, and the lines of the other sites
+-- The text so far, and the lines of the other sites.
 abbrev pub invariant-loop-i : goal.invariant-loop-i
 invariant-loop-i l =
     string_bytes l.text ++ site_lines l.board.plan l.board.state l.visits (l.i + 1) (drop l.i l.shapes)

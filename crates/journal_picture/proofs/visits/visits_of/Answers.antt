@@ -8,7 +8,7 @@ use Rattle.journal_picture.specs.declared.visits.Visits.{Visits}
 use Rattle.journal_picture.proofs.Visited.{SoFar, so_far_last, so_far_next}
 use Rattle.journal_picture.proofs.visits.visits_of.Goals as goal
 
--- the numbers go on by the entry
+-- The numbers go on by the entry.
 pub loop-entry-preserved : goal.loop-entry-preserved
 loop-entry-preserved c =
     let p = c.args.plan.now in
@@ -29,7 +29,7 @@ loop-entry-preserved c =
           (subst (λ (ws : List Visits). SoFar p es (k + 1) (or_same b.state (admit_of p b.state e)) ws) (sym visits) next),
     )
 
--- at the end each site has its numbers
+-- At the end each site has its numbers.
 pub returns-clause-same : goal.returns-clause-same
 returns-clause-same c =
     let past : length c.args.list.now ≤ c.loop-entry.entry-index = search rules in

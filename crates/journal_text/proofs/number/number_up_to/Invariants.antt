@@ -2,7 +2,7 @@ use Rattle.std.proofs.Common.{◌≡◌, ◌≤◌, take}
 use Rattle.std.specs.Str.Parse.{digits_value, AllDigits}
 use Rattle.journal_text.proofs.number.number_up_to.Given as goal
 
--- the number of the digits so far
+-- The number of the digits so far.
 abbrev pub invariant-loop-byte : goal.invariant-loop-byte
 invariant-loop-byte l = record {
   value : l.number ≡ digits_value 10 (take l.byte-index l.word);

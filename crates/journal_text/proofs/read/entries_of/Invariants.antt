@@ -3,7 +3,7 @@ use Rattle.journal_text.specs.Reading.{lines_of, entries_of}
 use Rattle.journal_text.proofs.Steps.{behind}
 use Rattle.journal_text.proofs.read.entries_of.Given as goal
 
--- the entries so far, and then those of the rest
+-- The entries so far, and then those of the rest.
 abbrev pub invariant-loop-line : goal.invariant-loop-line
 invariant-loop-line l = record {
   room : length l.list.items + length l.rest ≤ length l.text;

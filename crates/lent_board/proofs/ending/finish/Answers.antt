@@ -12,7 +12,7 @@ use Rattle.lent_board.specs.declared.seat.HartSeat.{HartSeat}
 use Rattle.board_rule.specs.declared.layout.Layout.{Layout}
 use Rattle.lent_board.proofs.ending.finish.Goals as goal
 
--- the journal of the last state
+-- The journal of the last state.
 last : (lay : Layout) (p : Plan) (q : HartSeat) (ws : List ℕ) (s : St) → Stands lay p s → get_elem? s.views q.seat.id ≡ some q.seat.me.0 → s.words ≡ ws → q.seat.me.0.hart ≡ 0 → AllEnded p q.seat.me.0
     → (es : List Entry) × Spells lay p ws es × IsJournal p q.seat.me.0 es
 last lay p q ws s k at words zeroth all =

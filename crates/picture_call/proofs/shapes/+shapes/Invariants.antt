@@ -3,7 +3,7 @@ use Rattle.array_tree.specs.Trees.{statement_of, sequence_of, sequences_of, sequ
 use Rattle.picture_call.specs.Shapes.{sequence_shapes, branches_shapes, phases_shapes}
 use Rattle.picture_call.proofs.shapes.+shapes.Given as goal
 
--- the shapes so far, and those of the rest
+-- The shapes so far, and those of the rest.
 abbrev pub invariant-add_block-loop-statement : goal.invariant-add_block-loop-statement
 invariant-add_block-loop-statement l =
     l.shapes.items ++ sequence_shapes l.teams (sequence (map statement_of (drop l.statement-index l.statement-items)))

@@ -12,7 +12,7 @@ use Rattle.lone_hart.specs.declared.site.LoneSite.{LoneSite}
 use Rattle.lone_hart.proofs.ServedSites.{pool_run, team_run, not_failed}
 use Rattle.lone_hart.proofs.lone.LoneSchedulersSchedulersJobMachines.take.Goals as goal
 
--- a site's account implies that its construct was run
+-- A site's account implies that its construct was run.
 abbrev Reports : LoneSite → NestedParts → Type 0
 Reports site nested = (p : Plan) (before es : List Entry) (hart : ℕ) → IsPlan p → is_serving site p nested.site (before ++ Register hart nested.site ∷ []) es
     → is_run p before (es ++ Unregister hart nested.site ∷ []) nested

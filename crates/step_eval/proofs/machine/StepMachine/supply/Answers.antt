@@ -10,7 +10,7 @@ use Rattle.step_eval.proofs.machine.StepMachine.supply.Goals as goal
 awaiting : (c : goal.After-self-2-1) → c.self.inside.stage ≡ Awaiting
 awaiting c = ap (λ m. m.stage) c.self.view_is ∙ c.requires.awaits
 
--- the machine has taken its supply
+-- The machine has taken its supply.
 taken : (c : goal.After-self-2-1) → IsSupplied c.self.inside.job c.self.inside.frames c.pass.new.self c.self.inside.store
     (noted_all c.args.written.now.pairs c.self.inside.store) c.self.inside.room c.self.inside.next (c.self.inside.next + c.sites_in_construct-sites.result)
 taken c =
