@@ -29,7 +29,7 @@ pub enum Doing {
     Idle,
     /// It has claimed the site, and its Register is still to be made.
     Claiming(u16),
-    /// It has made the Request of so many harts for the site, and is to add them to the site's want.
+    /// It has made the Request of a number of harts for the site, and is to add this number to the site's want.
     Crediting(u16, u8),
     /// It is reserved to the site, and its Enter is still to be made.
     Reserved(u16),

@@ -80,7 +80,7 @@ impl<'p> Accepted<'p> {
     }
 }
 
-/// The accepted program for a program that meets all conditions, for so many harts.
+/// The accepted program for a program that meets all conditions on `harts` harts.
 pub(crate) fn accept<'p>(
     alloc: Global,
     program: &'p Program,

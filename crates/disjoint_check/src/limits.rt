@@ -26,7 +26,7 @@ const MOST_ENTRIES: u64 = 65_535;
 /// The greatest number of pieces.
 const MOST_PIECES: u64 = 16_384;
 
-/// The first of the conditions on names, ranges and size that fails, for so many harts. It takes time in proportion to the
+/// The first of the conditions on names, ranges and size that fails on `harts` harts. It takes time in proportion to the
 /// program's text; each name is also searched among all arrays and the loops around.
 pub(crate) fn limit_fault(program: &Program, harts: u8) -> Option<CheckFault>
     requires some_hart { 1 ≤ harts }

@@ -106,8 +106,9 @@ fn duplicate_among<'s>(arrays: &Arrays, blocks: &'s Blocks, loops: &'s Loops<'s>
     None
 }
 
-/// The line of the first statement with an unknown name, outside the blocks in it: it indexes a name that is no array's, or
-/// uses a name without index that is no variable's of a loop around.
+/// The line of the first statement with an unknown name, outside the blocks in it.
+///
+/// A name is unknown if it is indexed and is no array's. Without an index it is unknown if no loop around has that variable.
 pub(crate) fn unknown_name(program: &Program) -> Option<u32>
     ensures { result ≡ unknown_name (program_of program.now) }
 {

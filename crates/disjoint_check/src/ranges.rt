@@ -44,7 +44,7 @@ fn declarations_fault(declarations: &[ArrayDecl]) -> Option<CheckFault>
     None
 }
 
-// The limits of a declaration, with so many arrays and so many cells before it.
+// The limits of a declaration, with `arrays` arrays and `cells` cells before it.
 fn declaration_fault(array: &ArrayDecl, arrays: usize, cells: u32) -> Option<CheckFault>
     requires { cells ≤ most_cells }
     ensures { result ≡ declaration_fault (declaration_of array.now) arrays cells }
@@ -142,7 +142,7 @@ fn range_fault_among(blocks: &Blocks) -> Option<CheckFault>
     None
 }
 
-// The limits of a `team` of so many phases.
+// The limits of a `team` of `phases` phases.
 fn team_fault(line: u32, low: i64, high: i64, members: i64, phases: usize) -> Option<CheckFault>
     ensures { result ≡ team_fault line low high members phases }
 {

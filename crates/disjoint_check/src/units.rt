@@ -84,7 +84,7 @@ fn units_of_phases(phases: &Blocks, members: u64, iterations: u64) -> u64
     units
 }
 
-// The units of so many turns of a body of so many units: each turn is one more.
+// The units of `turns` turns of a body of `units` units: each turn is one more.
 #[tactic(auto, using(site_counts::proofs::Capped::capped_turns))]
 fn units_of_turns(turns: u64, units: u64) -> u64
     ensures { (body : ℕ) → units ≡ capped body → result ≡ capped (turns * (1 + body)) }

@@ -30,7 +30,7 @@ impl Model for Walker {
 }
 
 impl Walker {
-    /// A walk that begins at a store, with room for so many sites.
+    /// A walk that begins at a store, with room for `sites` sites.
     pub(crate) fn new(alloc: Global, store: &Store, sites: u16) -> Result<Walker, AllocError>
         ensures { IfOk result (λ walker. walker ≡ record { trace = fresh store.now; sites = [] }) }
     {
@@ -119,7 +119,7 @@ impl Walker {
     }
 }
 
-// Records so many sites as not entered. Why it fails for a capped count (the greatest number of 64 bits also stands for all
+// Records `count` sites as not entered. Why it fails for a capped count (the greatest number of 64 bits also stands for all
 // greater ones): no list has 2^63 elements.
 fn pass_over(count: u64, sites: &mut Vec<bool>) -> Result<(), AllocError>
     ensures recorded { IfOk result

@@ -31,7 +31,9 @@ impl<'a, 'r, 'p, R: Wait + 'a> PoolHand<'a, 'r, 'p, R> {
             .offer(rt, &mut kept, slots, self.rows, site, self.level);
     }
 
-    /// What `deposit` of the pool does. If the pool was handed out, each piece is a `Stranger`.
+    /// Puts a piece into the slot of its job, under the pool's lock. May block.
+    ///
+    /// If no slot has the piece's job, or the pool was handed out, it returns the piece as a `Stranger`.
     ///
     /// It compares the piece's job with the copy beside the lock, before it takes the lock. Why the pool then keeps the piece
     /// with the piece's own job: a lock's type states nothing about what is beside the lock. So the home compares all jobs of a
@@ -52,7 +54,9 @@ impl<'a, 'r, 'p, R: Wait + 'a> PoolHand<'a, 'r, 'p, R> {
         }
     }
 
-    /// What `fail` of the pool does. It does nothing if the slot doesn't exist, or is filled or failed.
+    /// Marks the slot at index `place` as failed, under the pool's lock: an allocation failed for its piece. May block.
+    ///
+    /// It does nothing if the slot doesn't exist, if it is filled or failed, or if the pool was handed out.
     pub fn fail(&self, rt: &R, place: u8) {
         if let Some(pool) = self.shared.kept().lock(rt).as_mut() {
             if pool.is_open(place) {

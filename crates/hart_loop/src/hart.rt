@@ -44,6 +44,11 @@ impl<'a, 'p, P, S: Drop> Hart<'a, 'p, P, S> {
 /// Runs the hart's job, or serves the base as a guest until the base is shut.
 ///
 /// The hart with the job shuts the base in the end, and has then seen each top site gone.
+///
+/// # Memory
+///
+/// It allocates what `run_piece` and `serve` of `hart_work` allocate. If an allocation for the hart's job fails, `hart.piece` is
+/// `None`.
 pub fn work<'a, 'p, P: PatientPort, R: Wait, S: InDirectory<'p>, F: Fn(u8, u16, u8, u8)>(
     rt: &'a R,
     alloc: Global,

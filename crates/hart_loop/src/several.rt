@@ -27,8 +27,8 @@ const MOST_ON_WORDS: u8 = 4;
 /// Runs an accepted program on the harts of its plan, at least two, each on a thread. Blocks until all of them are back.
 ///
 /// The store is the store of the one-thread meaning. The journal is that of a closed board, and complete for the plan and the
-/// sites that this meaning enters: every transfer is legal, every site is gone, and exactly the entered ones came and went. The
-/// caller's thread checks that, and runs the program again if a journal fails the check.
+/// sites that this meaning enters. In a complete journal every transfer is legal, every site is gone, and exactly the entered
+/// sites came and went. The caller's thread checks that, and runs the program again if a journal fails the check.
 ///
 /// Up to four harts move on a word board, more on a wide board. A hart that has taken a piece passes the gate before its first
 /// step.
@@ -60,8 +60,11 @@ pub fn run_harts<R: Threads + Wait + Sync, G: Gate>(
     run_tested(rt, alloc, accepted, TeamMode::Wait, gate)
 }
 
-/// Runs an accepted program, no two pieces of which cross, on the harts of its plan, each on a thread, with members that
-/// overtake: each goes on to its next phase as soon as those below it have done that phase. Blocks until all harts are back.
+/// Runs an accepted program on the harts of its plan, each on a thread, with members that overtake. Blocks until all harts are
+/// back.
+///
+/// No two pieces of the program may cross. A member goes on to its next phase as soon as the members below it have done that
+/// phase.
 ///
 /// The store and the journal are as those of `run_harts`, but for one hart the journal is the list of its port.
 ///

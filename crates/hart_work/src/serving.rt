@@ -155,6 +155,11 @@ pub fn run_construct<P: PatientPort, R, M: Machines, H: Schedulers<R, M>, F: Fn(
 }
 
 /// Runs the tasks of the hart's owner: as its home until the site's work is done, as a guest until there is nothing to do.
+///
+/// # Memory
+///
+/// It allocates what `run_piece` allocates for each job, and what the site's scheduler allocates when it gets a piece. If an
+/// allocation for a job fails, the job's piece is reported as failed, and the call goes on.
 #[cycle(serve)]
 pub fn serve<P: PatientPort, R, M: Machines, H: Schedulers<R, M>, F: Fn(u8, &M::Job)>(
     rt: &R,

@@ -43,12 +43,13 @@ pub fn serving_begins()
     ensures { ServingBegins }
 {}
 
-/// The sites of a job that has none of the done jobs' sites are fresh.
+/// While a construct is served, the sites of a job that has none of the done jobs' sites are fresh.
 pub fn other_jobs_are_fresh()
     ensures { OtherJobsAreFresh }
 {}
 
-/// When that job has run, it is done.
+/// When a job of a construct that is being served has run, and changed no sites but its own, the construct is served with that
+/// job done.
 pub fn serving_goes_on()
     ensures { ServingGoesOn }
 {}
@@ -63,7 +64,7 @@ pub fn jobs_have_own_sites()
     ensures { JobsHaveOwnSites }
 {}
 
-/// So while a construct is served, the sites of each job that isn't done are fresh.
+/// While a construct is served, the sites of each of its jobs that isn't done are fresh.
 pub fn jobs_not_done_are_fresh()
     ensures { JobsNotDoneAreFresh }
 {}

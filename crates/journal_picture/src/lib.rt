@@ -1,10 +1,26 @@
-//! A journal as a picture: where each hart was from when to when, and at each place how many wishes are unmet and how many harts
-//! are idle.
+//! A journal as a picture: where each hart was from when to when, and at each place how many wishes are unmet and how many
+//! harts are idle.
 //!
-//! `picture_call` draws the journal of a run with it. The height of a bar shows how deep its site is and the outline shows the
-//! kind, so no colour is needed. A long journal is drawn in rows. The caller passes the verdict as text, so a picture needs no
-//! language and no audit. Begin with `stays_of` in `stay.rt` and `text_picture` in `text.rt`; the tests of `picture_tests` draw
-//! small journals.
+//! The height of a bar shows how deep its site is and the outline shows the kind, so no colour is needed. A long journal is
+//! drawn in rows. The caller passes the verdict as text, so a picture needs no language and no audit. `picture_call` draws the
+//! journal of a run by this crate. Begin with `stays_of` in `stay.rt` and `text_picture` in `text.rt`.
+//!
+//! # Example
+//!
+//! A site of the author's own kind on one hart, from `picture_tests/src/kinds.rt`. `ONE` is a list of two entries.
+//!
+//! ```text
+//! let plan = Plan::new(alloc, 1, &[0])?;
+//! let Some(kind) = Kind::named(LONGEST) else {
+//!     return Err(Fail::new("no kind"));
+//! };
+//! let shapes = [Shape {
+//!     kind,
+//!     phased: true,
+//!     line: 7,
+//! }];
+//! let text = text_picture(alloc, &plan, &[true], &shapes, &ONE, b"legal 2\n")?;
+//! ```
 #![tactic(auto)]
 
 mod axis;

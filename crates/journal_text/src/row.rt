@@ -21,7 +21,7 @@ const MOST_COUNT: u32 = 255;
 pub enum Deed<'t> {
     /// It registers the site, under a parent.
     Registers(&'t [u8]),
-    /// It requests so many harts.
+    /// It requests harts, as many as this word spells.
     Requests(&'t [u8]),
     Enters,
     Yields,

@@ -13,7 +13,7 @@ use board_rule::Laid;
 use hart_port::{Entered, Port, Seen, Taken};
 
 /// The port of a hart of a board. No call blocks. The contract of a call that returns a word, or sees a site gone, also states
-/// the seat's new view, as the board's call does: so it read that word on the board.
+/// the seat's new view, as the board's call does. So the call read that word on the board.
 #[derive(Drop)]
 pub struct BoardPort<'a, L: Laid> {
     board: &'a Board<L>,

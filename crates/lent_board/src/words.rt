@@ -22,7 +22,7 @@ pub(crate) fn digit(change: u16, hart: u8) -> u64
     }
 }
 
-/// Whether another of so many harts is in the site.
+/// Whether another hart, of the first `harts` harts, is in the site.
 pub(crate) fn is_held(word: u64, harts: u8, hart: u8, site: u16) -> bool
     ensures { result ≡ others_at harts word hart site }
 {

@@ -21,7 +21,7 @@ impl<'p> LitheBarrier<'p> {
         }
     }
 
-    /// The same as `arrive` of the state, under the lock. May block.
+    /// Puts a piece into the slot of its job, under the lock, as `arrive` of `BarrierState` does. May block.
     pub fn arrive<R: Threads + Wait + Sync>(&self, rt: &R, piece: Piece<'p>) -> Arrival<'p>
         ensures { GivesBack piece.entry result }
     {

@@ -7,6 +7,28 @@
 //! Not checked, for C to ensure: a hart's pointer is one that `lithe_hart_make` wrote and `lithe_hart_drop` hasn't taken. Each
 //! hart is passed to one call at a time. A hart may go from thread to thread by a lock, by the start or the join of a thread,
 //! or by a sequentially consistent atomic. No call is made in a signal handler, or in a forked child of a process with threads.
+//!
+//! The crate is for parallel libraries in C or C++ that call each other and share threads, as in `bindings/c/examples/compose.c`.
+//! Begin with `lithe_hart_make` in this file, which makes a board and its harts. Then read `lithe_hart_register` with
+//! `registered` in `calls.rt`, which makes the call on the hart's block. `status.rt` has the statuses.
+//!
+//! # Example
+//!
+//! Lines of `with_a_guest` and `closed` in `bindings/c/tests/refusals.c`. Hart 0 is the home of site 1, and hart 1 its guest.
+//! `DONE` tests that the call returns 0. Each call of `lithe.h` calls one of this file, as `lithe_register` does with
+//! `lithe_hart_register`.
+//!
+//! ```text
+//! DONE(lithe_register(&harts[0], &site));
+//! MUST(site == 1 && lithe_owner(&harts[0]) == 1);
+//! DONE(lithe_request(&harts[0], 1));
+//! DONE(lithe_enter(&harts[1], 1));
+//! MUST(lithe_owner(&harts[1]) == 1);
+//! DONE(lithe_close(&harts[0]));
+//! DONE(lithe_yield(&harts[1]));
+//! DONE(lithe_see_empty(&harts[0]));
+//! DONE(lithe_unregister(&harts[0]));
+//! ```
 #![tactic(auto)]
 
 ghost use Rattle.std.specs.Prelude.{◌≡◌, ◌⊎◌, ◌<◌, ◌≢◌, length};

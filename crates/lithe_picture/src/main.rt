@@ -1,4 +1,12 @@
-//! Draws the journal of a run as a picture.
+//! Draws the journal of a run as a picture, in text or as SVG.
+//!
+//! The program reads a program of the array language, a line `%%` and an output of `run`, `tally` or `pipe` from standard
+//! input, and writes the picture to standard output. `picture_call` does the work. `docs/PICTURES.md` has the words, the
+//! statuses and both forms.
+//!
+//! # Example
+//!
+//! The gate runs the program with the words in the file `args` on the file `stdin`: `lithe_picture text --harts 2`.
 #![tactic(auto)]
 
 ghost use Rattle.std.specs.Prelude.{◌≡◌, map, string_bytes, IfOk, IfErr, IsErrOf};

@@ -28,7 +28,8 @@ use std::alloc::{AllocError, Global};
 /// Runs an accepted program on one hart, and returns. The plan must have one hart.
 ///
 /// The store is the store of the one-thread meaning. The journal is listed, and complete for the plan and the sites that this
-/// meaning enters: every transfer is legal, every site is gone, and exactly the entered ones came and went.
+/// meaning enters. In a complete journal every transfer is legal, every site is gone, and exactly the entered sites came and
+/// went.
 ///
 /// # Errors
 ///

@@ -93,7 +93,9 @@ impl<'a, 'r, 'p, R: Wait + 'a> TeamHand<'a, 'r, 'p, R> {
     ghost use Rattle.loop_team.specs.Looks.{ReportsReady, ReportsRest};
     ghost use Rattle.loop_team.specs.Teams.{IsOver, phases_in};
 
-    /// What `arrive` of the team does. If the team was handed out, each piece is a `Stranger`.
+    /// Takes a piece to its slot in the current phase. The last piece of a phase opens the next phase, if there is one.
+    ///
+    /// If the team was handed out, it returns each piece as a `Stranger`. May block.
     ///
     /// # Errors
     ///
@@ -108,7 +110,10 @@ impl<'a, 'r, 'p, R: Wait + 'a> TeamHand<'a, 'r, 'p, R> {
         self.shared.arrive(rt, piece)
     }
 
-    /// What `fail` of the team does. It does nothing if the slot doesn't exist in the current phase, or its piece has come.
+    /// Marks the team as failed, under its lock: an allocation failed for the piece at index `place` of the current phase. May
+    /// block.
+    ///
+    /// It does nothing if the slot doesn't exist in the current phase, if its piece has come, or if the team was handed out.
     pub fn fail(&self, rt: &R, place: u8) {
         let shared = self.shared;
         if let Some(team) = shared.lock.lock(rt).as_mut() {

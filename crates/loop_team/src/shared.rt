@@ -352,12 +352,12 @@ impl<'p> SharedTeam<'p> {
     }
 }
 
-// The current phase if so many have opened, or the last one.
+// The current phase if `opened` phases have opened, or the last one.
 fn running(nested: &Nested, opened: u8) -> u8 {
     opened.min(nested.phases() - 1)
 }
 
-// The stripes of a team with so many members. Why a team of few members has none: each piece of a stripe is compared once more
+// The stripes of a team with `members` members. Why a team of few members has none: each piece of a stripe is compared once more
 // when all have come, and that costs as much as the stripes save.
 fn stripes_of<'p>(
     alloc: Global,
@@ -372,7 +372,7 @@ fn stripes_of<'p>(
     Ok(stripes)
 }
 
-// The number of slots, of so many, that wait for their pieces.
+// The number of slots, of the first `members`, that wait for their pieces.
 fn count_open(team: &Team, members: u8) -> u64 {
     let mut left = 0u64;
     for place in 0..members {

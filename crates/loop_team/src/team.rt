@@ -236,7 +236,9 @@ impl<'p> Team<'p> {
         }
     }
 
-    /// What `arrive` does with a piece whose slot is known: the slot of its job, which must be open. No jobs are compared.
+    /// Takes a piece to the barrier of the current phase, as `arrive` does. The slot of its job must be open.
+    ///
+    /// The caller knows the slot, so no jobs are compared.
     ///
     /// # Errors
     ///

@@ -22,11 +22,13 @@ use std::alloc::Global;
 /// Serves the words: reads a program, a line `%%` and an output of its run, and writes a picture of the output's journal, or
 /// writes to `err` why not.
 ///
-/// `text --harts N` and `svg --harts N`, N from 1 to 16, write it as text and as SVG, of an output of `run`; with `--of tally` or
-/// `--of pipe` of an output of that command, which then checks the program. The input, the statuses and their texts are those of
-/// `lithe` for `audit --harts N`, except that a program is refused as that command refuses it, and that the status Usage lists
-/// the forms of these words. If the command can't write the output for the program, the status is Illegal; the picture then shows
-/// the journal up to its first fault, and names the fault. The whole picture is built before its first byte is written.
+/// `text --harts N` writes the picture as text, and `svg --harts N` as SVG, N from 1 to 16. The output is one of `run`, or with
+/// `--of tally` or `--of pipe` one of that command. The program is checked as that command checks it.
+///
+/// The input, the statuses and their texts are those of `lithe` for `audit --harts N`, with two exceptions. A program is refused
+/// as the command refuses it, and the status Usage lists the forms of these words. If the command can't write the output for the
+/// program, the status is Illegal. The picture then shows the journal up to its first fault, and names the fault. The whole
+/// picture is built before its first byte is written.
 ///
 /// # Memory
 ///

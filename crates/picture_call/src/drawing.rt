@@ -24,7 +24,21 @@ use run_audit::parts_of;
 use std::alloc::Global;
 use transfer_table::Plan;
 
-/// The picture of the output that stands behind a program, or why there is none.
+/// Draws the journal of an output that stands behind its program and a line `%%`, with the verdict on the output.
+///
+/// It checks the program as the command `wanted.runner` does, on `wanted.harts` harts. `bytes` has at most 4,194,304 bytes.
+///
+/// # Errors
+///
+/// - `Fault::Syntax` if there is no line `%%`, the text before that line spells no program, or the text behind it is no output.
+/// - `Fault::TooLong` if the text before the line `%%` has more than `MOST_BYTES` bytes, 65,536.
+/// - `Fault::Refused` if the command refuses the program.
+/// - `Fault::Memory` if an allocation fails.
+///
+/// # Memory
+///
+/// It allocates the program and what its check needs, the entries of the journal, the shapes of the sites, and the picture, or
+/// the line of the fault. For `tally` it also allocates the program with rows.
 pub fn drawn(alloc: Global, wanted: Wanted, bytes: &[u8]) -> Result<Picture, Fault>
     requires short { length bytes.now ≤ most_audited }
     requires some_hart { 1 ≤ wanted.harts }

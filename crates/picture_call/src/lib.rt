@@ -1,11 +1,21 @@
-//! Pictures of outputs, and the call for them: words, and a program with an output of it in, a picture of the output's journal
-//! out.
+//! The call of the program `lithe_picture`: it reads a program and an output of it, and writes a picture of the output's
+//! journal.
 //!
-//! The call reads what an audit reads, and checks the program as the command does whose output it draws. `picture_of` in
-//! `picture.rt` draws any output, also one that no run printed. `specs/Shown.antt` defines what a call has read and written.
+//! [`serve_picture`] takes the words of a command line, a source and two sinks, so tests call it with ends in memory. It reads
+//! what an audit reads, and checks the program as the command does whose output it draws. `specs/Shown.antt` defines what a
+//! call reads and writes. `picture_of` in `picture.rt` draws any output, also one that no run printed.
 //!
-//! Begin with `serve_picture` in `call.rt`. The program `lithe_picture` calls it, and the tests of `picture_call_tests` serve
-//! pictures from memory.
+//! # Example
+//!
+//! From `picture_call_tests/src/serving.rt`, for words such as `["text", "--harts", "2"]`.
+//!
+//! ```text
+//! let mut own = Vec::new(alloc);
+//! for word in words {
+//!     own.push(String::from_str(alloc, word)?)?;
+//! }
+//! Ok(serve_picture(alloc, &own, source, out, err))
+//! ```
 #![tactic(auto)]
 
 mod call;

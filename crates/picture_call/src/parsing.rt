@@ -9,7 +9,7 @@ use crate::runner::Runner;
 use lithe_call::{Fault, harts, parsed_command};
 use std::alloc::{AllocError, Global};
 
-/// What the words request: a picture of this form, of an output of this command on so many harts, 1 to 16.
+/// What the words request: a picture in `form`, of an output of the command `runner` on `harts` harts, 1 to 16.
 #[derive(Clone, Copy, Debug, PartialEq, Eq)]
 pub struct Wanted {
     pub form: Form,
@@ -22,6 +22,10 @@ pub struct Wanted {
 /// # Errors
 ///
 /// `Fault::Usage` if the words request no picture, and `Fault::Memory` if an allocation fails.
+///
+/// # Memory
+///
+/// It allocates the words of a command `run` with this number of harts, and what `parsed_command` allocates to read them.
 pub fn parsed(alloc: Global, words: &[String]) -> Result<Wanted, Fault>
     ensures named { IfOk result
         (λ parsed. parsed_form (map string_bytes words.now) ≡ Some parsed.form) }

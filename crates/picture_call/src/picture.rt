@@ -136,7 +136,7 @@ fn picture_by(
     )
 }
 
-// The entries of the journal that stands behind so many array lines, if one does.
+// The entries of the journal that stands behind `arrays` array lines, if one does.
 fn entries_behind(
     alloc: Global,
     plan: &Plan,
@@ -154,7 +154,7 @@ fn entries_behind(
     }
 }
 
-// The journal that stands behind so many array lines, or its first fault.
+// The journal that stands behind `arrays` array lines, or its first fault.
 fn journal_behind(
     alloc: Global,
     plan: &Plan,
@@ -169,7 +169,7 @@ fn journal_behind(
     read_entries(alloc, plan, journal)
 }
 
-// What stands behind so many lines.
+// The text behind the first `lines` lines.
 fn behind(lines: usize, text: &[u8]) -> Result<&[u8], TextFault>
     ensures first { MatchResult result
         (λ rest. behind lines (lines_of text.now) ≡ Ok (lines_of rest.now))

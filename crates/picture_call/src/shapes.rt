@@ -169,7 +169,7 @@ fn add_turns(
     add_times(&once, turns, shapes)
 }
 
-// Adds the same shapes so many times. Why the first test: a loop over no shapes would take as long as the turns are many.
+// Adds the shapes `once`, `turns` times. Why the first test: a loop over no shapes would take as long as the turns are many.
 fn add_times(once: &[Shape], turns: u64, shapes: &mut Vec<Shape>) -> Result<(), AllocError>
     ensures { OnOk result (shapes.new.items ≡ shapes.old.items ++ turns_of turns once.now) }
 {

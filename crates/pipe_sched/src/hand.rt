@@ -50,7 +50,9 @@ impl<'a, 'p, R> PipeHand<'a, 'p, R> {
 }
 
 impl<'a, 'p, R: Wait + 'a> PipeHand<'a, 'p, R> {
-    /// What `deposit` of the pipe does. If the pipe was handed out, each piece is a `Stranger`.
+    /// Puts a piece into the slot of its job, under the pipe's lock. May block.
+    ///
+    /// If the pipe was handed out, it returns each piece as a `Stranger`.
     pub fn deposit(&self, rt: &R, piece: Piece<'p>) -> Deposit<'p>
         ensures { GivesBack piece.entry result }
     {
@@ -63,7 +65,10 @@ impl<'a, 'p, R: Wait + 'a> PipeHand<'a, 'p, R> {
         answer
     }
 
-    /// What `fail` of the pipe does. It does nothing if the piece isn't handed out and isn't due, or is filled or failed.
+    /// Reports under the pipe's lock that the piece of `member` in `phase` failed. Each piece that comes after it fails too. May
+    /// block.
+    ///
+    /// It does nothing if the piece isn't handed out and isn't due, if it is filled or failed, or if the pipe was handed out.
     pub fn fail(&self, rt: &R, member: u8, phase: u8) {
         let mut kept = self.shared.kept().lock(rt);
         under_lock::fail(&mut kept, member, phase);

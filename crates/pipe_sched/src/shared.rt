@@ -35,7 +35,11 @@ impl<'p> SharedPipe<'p> {
     ///
     /// # Errors
     ///
-    /// `AllocError`, as the contract allows. This implementation does not allocate.
+    /// `AllocError`, as the contract allows.
+    ///
+    /// # Memory
+    ///
+    /// This implementation does not allocate.
     pub fn new(_alloc: Global, pipe: Pipe<'p>) -> Result<SharedPipe<'p>, AllocError>
         ensures { IfOk result (λ shared. shared ≡ pipe.entry.state.nested) }
     {

@@ -39,7 +39,7 @@ impl Shown {
         }
     }
 
-    // Shows that the lock-protected pipe has something for so many more harts.
+    // Shows that the lock-protected pipe has something for `count` more harts.
     pub(crate) fn add_offers(&self, count: u8) {
         let _ = self.offers.fetch_add(u64::from(count), Ordering::SeqCst);
     }

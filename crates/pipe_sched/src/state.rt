@@ -16,8 +16,8 @@ use step_eval::Nested;
 /// The state of the pipeline of one `team`: for each member in each phase a slot for its piece.
 ///
 /// A piece comes after those of the members up to its own in the phases up to its own. Contracts see the construct and the
-/// state of each piece. The type's invariant: a piece was handed out only after all that come before it were filled, its job
-/// starts from their writes, and a slot is filled with the writes of its own job.
+/// state of each piece. The type's invariant: a piece was handed out only after all pieces that come before it were filled, and
+/// its job starts from their writes. A slot is filled with the writes of its own job.
 #[derive(Debug, Drop)]
 pub struct PipeState<'p> {
     pub(crate) alloc: Global,

@@ -1,18 +1,16 @@
 -- Cells of which only the listed ones were touched.
-use Rattle.std.proofs.Common.{◌≡◌, ℕ, zero, suc, ◌+◌, ◌-◌, ◌<◌, ◌≤◌, Bool, true, false, List, [], ◌∷◌, ◌++◌, drop, length, replicate, refl, sym, ap, subst, ◌∙◌, ⊎_elim, arith, length-set, drop-cons, add-one}
+use Rattle.std.proofs.Common.{◌≡◌, ℕ, zero, suc, ◌+◌, ◌<◌, ◌≤◌, Bool, true, false, List, [], ◌∷◌, ◌++◌, drop, length, replicate, refl, sym, ap, subst, ◌∙◌, ⊎_elim, arith, length-set, drop-cons, add-one}
 use Rattle.std.specs.Prelude.{◌||◌, max, nat_eq, get_or, slice_set, slice_index_or}
 use Rattle.std.proofs.lemmas.Bool.{cases_lt, false≢true}
 use Rattle.std.proofs.lemmas.Bool.Decides.{nat_tests}
 use Rattle.std.proofs.lemmas.List.{length-replicate, get_or-set_same, get_or-set_other}
 use mathlib.Core.Logic.{dite}
 use native.Mathlib.Decide.{ℕ_discrete}
-use Rattle.pipe_walk.specs.declared.members.Members.{Members}
-use Rattle.pipe_walk.specs.declared.members.Members.TheVariants.{NoMember, Between}
 use Rattle.pipe_walk.specs.declared.touch.Touch.{Touch}
 use Rattle.pipe_walk.specs.declared.past.Past.{Past}
-use Rattle.pipe_walk.specs.Inside.Members.{joined_members, joined, untouched, touch_in}
-use Rattle.pipe_walk.specs.Inside.Tables.{TableParts, added, no_past, passed, past_in, touch_at, IsSettled}
-use Rattle.pipe_walk.specs.Inside.Cells.{CellParts, is_listed, IsBlankOutside, AreListed, IsListedUnless, AreCells, AreSettled, blank_cells}
+use Rattle.pipe_walk.specs.Inside.Members.{joined, untouched, touch_in}
+use Rattle.pipe_walk.specs.Inside.Tables.{added, no_past, passed, past_in}
+use Rattle.pipe_walk.specs.Inside.Cells.{CellParts, is_listed, IsBlankOutside, AreListed, AreCells, AreSettled, blank_cells}
 
 -- ---- lists
 
@@ -86,17 +84,6 @@ none_left (first ∷ more) zero cell h = absurd (omega arith)
 none_left (first ∷ more) (suc i) cell h = none_left more i cell (omega arith)
 
 -- ---- touches and pasts
-
-no_more_members : (m : Members) → joined_members m NoMember ≡ m
-no_more_members NoMember = refl
-no_more_members (Between first last) = refl
-
-pub no_more_touch : (t : Touch) → joined t untouched ≡ t
-no_more_touch t =
-    ap (λ r. joined_touch r (joined_members t.changed NoMember)) (no_more_members t.read) ∙ ap (joined_touch t.read) (no_more_members t.changed)
-  where
-    joined_touch : Members → Members → Touch
-    joined_touch r c = record { read = r; changed = c }
 
 max_none : (n : ℕ) → max n (max 0 0) ≡ n
 max_none n = omega arith
@@ -316,40 +303,3 @@ settling_more before now touch i h small crossed =
           (cases_lt c i);
       rest = λ c above. get_or-set_other now.past i c own no_past (λ e. absurd (omega arith)) ∙ h.rest c (omega arith);
     }
-
-pub settling_all : (before now : CellParts) (touch : ℕ → Touch) (i : ℕ) → IsSettling before now touch i → length before.past ≤ i →
-    AreSettled before (record now { touches = replicate (length now.touches) untouched }) touch
-settling_all before now touch i h all = record {
-  touches = ap (λ touches. replicate (length touches) untouched) h.touches;
-  places = h.places;
-  past = λ c there. h.done c (omega arith) there;
-}
-
--- ---- the table
-
-pub new_listed : (n m : ℕ) (unlisted : Bool) → IsListedUnless unlisted (replicate m untouched) (record { touches = replicate n untouched; past = replicate n no_past; listed = []; crossed = false })
-new_listed n m unlisted no' = (λ cell out. (anywhere n untouched cell, anywhere n no_past cell), λ number. anywhere m untouched number)
-
-pub blank_listed : (c : CellParts) (m : ℕ) (unlisted : Bool) → IsListedUnless unlisted (replicate m untouched) (blank_cells c)
-blank_listed c m unlisted no' = (λ cell out. (anywhere (length c.touches) untouched cell, anywhere (length c.past) no_past cell), λ number. anywhere m untouched number)
-
--- The parts of a table.
-abbrev pub table_of : CellParts → List Touch → List ℕ → TableParts
-table_of c everywhere owners = record { cells = c.touches; everywhere = everywhere; past = c.past; owners = owners }
-
-pub table_settled : (before after : CellParts) (everywhere : List Touch) (owners : List ℕ) (touch : ℕ → Touch) →
-    ((cell : ℕ) → touch cell ≡ touch_at (table_of before everywhere owners) cell) → AreSettled before after touch →
-    IsSettled (table_of before everywhere owners) (table_of after (replicate (length everywhere) untouched) owners)
-table_settled before after everywhere owners touch same is = record {
-  cells = is.touches;
-  everywhere = refl;
-  owners = refl;
-  places = is.places;
-  past = λ cell small. is.past cell small ∙ ap (passed (past_in before.past cell)) (same cell);
-}
-
--- Where no array was touched everywhere.
-pub touch_alone : (c : CellParts) (everywhere : List Touch) (owners : List ℕ) → ((number : ℕ) → touch_in everywhere number ≡ untouched) →
-    (cell : ℕ) → touch_in c.touches cell ≡ touch_at (table_of c everywhere owners) cell
-touch_alone c everywhere owners none cell =
-    sym (ap (joined (touch_in c.touches cell)) (none (slice_index_or owners cell 0)) ∙ no_more_touch (touch_in c.touches cell))

@@ -1,8 +1,7 @@
 -- The table's marks of a cell, phase by phase, and when the crossing test passes.
-use Rattle.std.proofs.Common.{◌≡◌, ℕ, zero, suc, ◌+◌, ◌-◌, ◌<◌, ◌≤◌, Bool, true, false, List, [], ◌∷◌, take, length, replicate, Some, None, ℤ, refl, sym, ap, ◌∙◌, ⊎_elim, arith, length-set}
-use Rattle.std.specs.Prelude.{◌||◌, max, slice_set, slice_index_or, map, drop, get_or, if◌then◌else◌}
-use Rattle.std.proofs.lemmas.Bool.{cases_lt}
-use Rattle.std.proofs.lemmas.List.{length-replicate, get_or-set_same, get_or-set_other}
+use Rattle.std.proofs.Common.{◌≡◌, ℕ, zero, suc, ◌+◌, ◌-◌, ◌<◌, ◌≤◌, Bool, true, false, List, [], ◌∷◌, take, length, replicate, Some, None, ℤ, refl, sym, ap, ◌∙◌, arith}
+use Rattle.std.specs.Prelude.{◌||◌, max, slice_index_or, map, drop, get_or, if◌then◌else◌}
+use Rattle.std.proofs.lemmas.List.{length-replicate}
 use Rattle.std.proofs.Common.{drop-cons, add-one}
 use Rattle.array_tree.specs.declared.tree.Block.{Block}
 use Rattle.array_tree.specs.Trees.{Sequences, no_more, beside, sequence_of, sequences}

@@ -145,7 +145,7 @@ fn set_cell(alloc: Global, size: u8, array: &[u8], value: Expr) -> Result<Stmt, 
     assign(alloc, array, index, value)
 }
 
-// The cell of the grid that is so many columns and rows further on.
+// The cell of the grid that is `by` columns further on.
 fn cell_beside(alloc: Global, size: u8, by: u8) -> Result<Expr, AllocError>
     ensures { IfOk result (λ e. expression_of e
         ≡ cell_at size (codes "g") row_number (moved size column_number by)) }
@@ -154,6 +154,7 @@ fn cell_beside(alloc: Global, size: u8, by: u8) -> Result<Expr, AllocError>
     cell_at(alloc, size, b"g", row_number(alloc)?, column)
 }
 
+// The cell of the grid that is `by` rows further on.
 fn cell_below(alloc: Global, size: u8, by: u8) -> Result<Expr, AllocError>
     ensures { IfOk result (λ e. expression_of e
         ≡ cell_at size (codes "g") (moved size row_number by) column_number) }

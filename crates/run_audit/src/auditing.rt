@@ -47,9 +47,25 @@ pub fn audit(
     audit_by(alloc, accepted.program(), accepted.plan(), meant, output)
 }
 
-/// The same of a program and a plan, which may be that of an accepted program with the same sites.
+/// The verdict on an output of at most 4,194,304 bytes, by a program and a plan that need not be an accepted program's.
 ///
-/// Each array must have a cell, and all at most 4,096.
+/// Each array of the program must have a cell, and all together at most 4,096. It compares the array lines first, as bytes. Then
+/// it checks the journal by the sites that are meant to be entered: `meant` has a flag for each site of the plan, at index
+/// `s - 1` for site `s`.
+///
+/// # Errors
+///
+/// The first error of the output's text. Lines are counted from 1 in the output.
+///
+/// - `TextFault::BadLine` if an array line is missing, or a line of the journal lacks its form or its newline.
+/// - `TextFault::BadNumber` if a number in a line of the journal is wrong.
+/// - `TextFault::WrongCount` if the number of entries differs from that in the journal's first line.
+/// - `TextFault::Memory` if an allocation fails.
+///
+/// # Memory
+///
+/// It allocates the store and the array lines of the program, the words and the entries of the journal, and a `Board` that checks
+/// the entries.
 pub fn audit_by(
     alloc: Global,
     program: &Program,

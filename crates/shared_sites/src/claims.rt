@@ -68,7 +68,7 @@ impl Claims {
         level_in(&self.sites, site)
     }
 
-    /// The claim counter of the first phase of a `team`. `None` exactly if its site hasn't counters for exactly so many phases
+    /// The claim counter of the first phase of a `team`. `None` exactly if its site hasn't counters for exactly the team's phases
     /// and members.
     pub(crate) fn row_of(&self, nested: &Nested<'_>) -> Option<u16>
         ensures fits { ForSome result (λ row. RowsFit self.now.table.counts.items row nested.now) }

@@ -59,7 +59,7 @@ impl<'t> Model for HartLocal<'t> {
 }
 
 impl<'t> HartLocal<'t> {
-    /// The hart-local state that a hart is lent for a run of so many harts.
+    /// The hart-local state that a hart is lent for a run of `harts` harts.
     fn new(rows: HartRows, seat: ClaimSeat, claims: &'t Claims, harts: u8) -> HartLocal<'t>
         requires harts { (rows_identity rows).harts ≡ harts }
         requires of { IsOf claims.now.table (seat_identity seat) }
@@ -523,7 +523,7 @@ pub(crate) fn offer_in<'b, 'p, R: Wait + 'b>(
     }
 }
 
-// Whether the hart's deque of this level has room for so many job indices.
+// Whether the hart's deque of this level has room for `count` job indices.
 fn has_room(rows: &HartRows, level: u8, count: usize) -> bool
     requires { IsLevel level }
     ensures { IsTrue result

@@ -9,7 +9,10 @@ use crate::ending::finish_site;
 use crate::patience::PatientPort;
 use crate::tree::SiteTree;
 
-/// Sweeps the owner if `is_needed`: if a piece of it has failed, or it isn't known that each child was unregistered or skipped.
+/// Registers and unregisters each child of the owner that no hart registered, if `is_needed`. Otherwise it does nothing.
+///
+/// If no other hart shares the table, `is_needed` may be false only if each child was unregistered or skipped. Callers pass
+/// whether a piece of the owner has failed.
 pub fn sweep_if<P: PatientPort>(tree: &SiteTree, port: &mut P, hold: P::Hold, is_needed: bool)
     requires plan { (P.seen port.old).plan ≡ tree.now }
     requires inner { IsSettled (P.seen port.old) }

@@ -39,7 +39,7 @@ impl Model for Layer {
 }
 
 impl Layer {
-    /// A layer of so many entries, without a touch.
+    /// A layer of `places` entries, without a touch.
     #[tactic(auto, using(crate::proofs::RoundLemmas::none_in_round))]
     pub(crate) fn new(alloc: Global, places: usize) -> Result<Layer, AllocError>
         ensures { IfOk result (λ layer. layer ≡ replicate places untouched) }

@@ -128,7 +128,7 @@ fn mark_statement<'s>(
     }
 }
 
-/// The same for a block for each number from low to before high.
+/// Marks the cells that a piece touches in a block, for each number from `low` to before `high` as the variable `var`.
 #[cycle(mark)]
 pub(crate) fn mark_loop<'s>(
     layout: &Layout,

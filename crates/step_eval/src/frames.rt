@@ -22,7 +22,7 @@ use std::alloc::{AllocError, Global};
 /// A remaining work.
 #[derive(Clone, Copy, Debug, Drop)]
 pub(crate) enum Frame<'p> {
-    /// The statements of a block from number `from` on. After the block come so many sites of the side that the `if` around it
+    /// The statements of a block from number `from` on. After the block come `after` sites of the side that the `if` around it
     /// did not choose.
     Statements {
         block: &'p Block,
@@ -419,7 +419,7 @@ impl<'p> Frames<'p> {
         Ok(Reported::to_skip(first, passed))
     }
 
-    // Puts a block on top with so many sites after it, and replaces the old top by this frame.
+    // Puts a block on top with `after` sites after it, and replaces the old top by the frame `rest`.
     #[inline(always)]
     fn begin_block(
         &mut self,

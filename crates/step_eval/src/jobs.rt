@@ -115,7 +115,7 @@ fn earlier_sites(construct: &Stmt, phase: u8) -> u64
     }
 }
 
-// The number of sites of so many of the first phases, each in all its iterations.
+// The number of sites of the phases before `phase`, each in all its iterations.
 fn sites_before(phases: &Blocks, low: i64, high: i64, phase: u8) -> u64
     requires { phase ≤ count_of (sequences_of phases.now) }
     ensures { result ≡ capped (span low high * sites_before (sequences_of phases.now) phase) }

@@ -99,7 +99,11 @@ impl<'p> StepMachine<'p> {
     ///
     /// # Errors
     ///
-    /// `AllocError`, as the contract allows; the machine is then failed. This implementation does not allocate.
+    /// `AllocError`, as the contract allows; the machine is then failed.
+    ///
+    /// # Memory
+    ///
+    /// This implementation does not allocate.
     pub fn supply(&mut self, written: &Overlay) -> Result<(), AllocError>
         requires awaits { self.old.stage ≡ Awaiting }
         requires written { AreAwaited self.old written.now.pairs }

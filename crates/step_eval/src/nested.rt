@@ -52,7 +52,11 @@ impl<'p> Nested<'p> {
     ///
     /// # Errors
     ///
-    /// `AllocError`, as the contract allows. This implementation does not allocate.
+    /// `AllocError`, as the contract allows.
+    ///
+    /// # Memory
+    ///
+    /// This implementation does not allocate.
     pub fn copy(&self) -> Result<Nested<'p>, AllocError>
         ensures { IfOk result (λ nested. nested ≡ self.now) }
     {

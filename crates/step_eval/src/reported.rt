@@ -12,7 +12,7 @@ pub(crate) enum Reported {
 }
 
 impl Reported {
-    /// Skips so many sites from this one on, if there is any.
+    /// Skips `count` sites from number `first` on; `Nothing` if `count` is 0.
     pub(crate) fn to_skip(first: u16, count: u16) -> Reported
         requires { first + count ≤ 4096 }
         ensures { some_span first count ≡ span_reported result }

@@ -105,7 +105,7 @@ fn place(alloc: Global, var: &Name, array: &ArrayDecl) -> Result<Expr, AllocErro
     binary(alloc, Op::Rem, variable(var)?, length)
 }
 
-// The number of cells of so many rows.
+// The number of cells of `rows` rows of an array.
 fn cells_in(rows: u64, array: &ArrayDecl) -> i64
     requires rows { rows ≤ most_members }
     requires cells { unsigned_abs array.now.length ≤ most_cells }

@@ -112,7 +112,7 @@ fn push_spread(
     }
 }
 
-// Adds a spread construct of so many rows, with the loops around it. `construct` is the construct before the spread.
+// Adds a spread construct of `rows` rows, with the loops around it. `construct` is the construct before the spread.
 fn push_with_loops(
     alloc: Global,
     layout: &Layout<'_>,

@@ -25,7 +25,7 @@ use std::alloc::{AllocError, Global};
 /// such a construct its rows become 0. Inside it, the adds go to the row of their branch or member. After it, all cells of the
 /// rows are added to the cells of `x`.
 ///
-/// Nothing else changes: with one hart, the result leaves in the given arrays what the given program leaves there, its plan of
+/// Nothing else changes. With one hart, the result leaves in the given arrays what the given program leaves there. Its plan of
 /// sites is the same, and it enters the same of them.
 ///
 /// # Errors

@@ -128,7 +128,7 @@ pub(crate) fn push_declarations(
     Ok(())
 }
 
-// The declaration of so many rows of an array. It has the array's line.
+// The declaration of `count` rows of an array. It has the array's line.
 fn rows_of(alloc: Global, array: &ArrayDecl, count: u64) -> Result<ArrayDecl, AllocError>
     requires few { count ≤ most_members }
     requires cells { unsigned_abs array.now.length ≤ most_cells }

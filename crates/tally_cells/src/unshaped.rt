@@ -65,7 +65,7 @@ fn unshaped_among(depth: u8, blocks: &Blocks) -> Option<u32>
     None
 }
 
-// Whether a statement inside so many constructs mentions an accumulating array in any way but as an add inside one construct.
+// Whether a statement inside `depth` constructs mentions an accumulating array in any way but as an add inside one construct.
 fn is_unshaped(depth: u8, statement: &Stmt) -> bool
     ensures { result ≡ is_unshaped depth (statement_of statement.now) }
 {

@@ -6,12 +6,10 @@
 //!
 //! # Example
 //!
+//! From `crew_tests/src/lengths.rt`: a text's length, by tasks that cut it at most six times, on `harts` harts.
+//!
 //! ```text
-//! match run_on(&rt, rt.alloc(), 4, 2, Length { text: b"four", cuts: 2 }) {
-//!     Ok(length) => ..,
-//!     Err(RunError::Task(error)) => ..,
-//!     Err(_) => ..,
-//! }
+//! run_on(rt, alloc, harts, 6, Length { text, cuts: 6 })
 //! ```
 #![tactic(auto)]
 

@@ -11,19 +11,31 @@
 //!
 //! # Example
 //!
-//! The sum of a slice's numbers, modulo 2^64.
+//! The sum of a slice's numbers, modulo 2^64, from `sums.rt` and `src/tests.rt`.
 //!
 //! ```text
 //! impl<'p> Fold for Sum<'p> {
 //!     type Output = u64;
 //!     type Error = AllocError;
-//!     ghost gives = { λ fold low high output. output ≡ sum (between low high fold.numbers.now) % 2 ^ 64 };
+//!     ghost gives = { λ fold low high output. high ≤ length fold.numbers.now
+//!         → output ≡ sum (between low high fold.numbers.now) % 2 ^ 64 };
 //!     ghost fails = { λ _ _ _ _. ⊥ };
 //!     ghost depth = { λ _. 0 };
-//!     fn join(&self, front: u64, back: u64) -> Result<u64, AllocError> { Ok(front.wrapping_add(back)) }
+//!     fn join(&self, front: u64, back: u64) -> Result<u64, AllocError> {
+//!         Ok(front.wrapping_add(back))
+//!     }
+//!     ghost front_fails = { λ _ _ _ _ _ _ _ no. no };
+//!     ghost back_fails = { λ _ _ _ _ _ _ _ _ _ no. no };
 //! }
 //!
-//! let sum = run_alone(alloc, Part { fold: sum, low: 0, high: numbers.len(), cuts: 3, shortest: 1024 })?;
+//! let part = Part {
+//!     fold: Sum { numbers: &numbers },
+//!     low: 0,
+//!     high: 9,
+//!     cuts,
+//!     shortest: 0,
+//! };
+//! assert_eq!(rt; run_alone(rt.alloc(), part)?, 30);
 //! ```
 #![tactic(auto)]
 

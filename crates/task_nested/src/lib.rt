@@ -6,10 +6,25 @@
 //!
 //! # Example
 //!
+//! A table of three rows, from `src/tests.rt`.
+//!
 //! ```text
-//! let rows = Rows { rows: table.as_slice(), cuts: 6, shortest: 1024 };
-//! let work = Work::Table(Part { fold: rows, low: 0, high: table.len(), cuts: 4, shortest: 1 });
-//! let Done::Summaries(summaries) = run_alone(alloc, work)? else { .. };
+//! let rows = Rows {
+//!     rows: &table,
+//!     cuts,
+//!     shortest: 0,
+//! };
+//! let work = Work::Table(Part {
+//!     fold: rows,
+//!     low: 0,
+//!     high: 3,
+//!     cuts: 2,
+//!     shortest: 0,
+//! });
+//! match run_alone(rt.alloc(), work)? {
+//!     Done::Summaries(summaries) => assert!(rt; summaries == expected, "with {cuts} cuts"),
+//!     _ => assert!(rt; false, "not summaries"),
+//! }
 //! ```
 #![tactic(auto)]
 

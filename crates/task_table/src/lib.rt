@@ -6,18 +6,23 @@
 //!
 //! # Example
 //!
+//! From `src/tests.rt`, where a task is a number and its output twice the number.
+//!
 //! ```text
-//! let table = TaskTable::new(alloc, tasks)?;
+//! let table = TaskTable::new(rt.alloc(), tasks)?;
 //!
 //! // Any hart:
 //! let mut seat = table.seat();
-//! if let Some(task) = table.claim(&mut seat, place) {
-//!     let outcome = task.run(alloc, harts);
-//!     table.give(&mut seat, place, outcome);
-//! }
+//! let Some(task) = table.claim(seat, place) else {
+//!     return false;
+//! };
+//! table.give(seat, place, Ok(task.0 as u64 * 2));
 //!
 //! // The hart that needs the outcomes:
-//! if let Some(outcome) = table.collect(&mut seat, place) { .. }
+//! match table.collect(seat, place) {
+//!     Some(Ok(output)) => Some(output),
+//!     _ => None,
+//! }
 //! ```
 #![tactic(auto)]
 

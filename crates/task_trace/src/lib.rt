@@ -4,17 +4,22 @@
 //! each task, with the time. [`chrome_trace`] writes the events in the JSON form of Chrome's trace events, which
 //! `chrome://tracing` and Perfetto open.
 //!
-//! The contracts state that the events of each hart are nested: each end is that of the task that began last of those that still
-//! run, and each task that has begun has ended.
+//! The contracts state that the events of each hart are nested: each end is that of the task that began last of those that
+//! still run, and each task that has begun has ended. No contract states that each task has an event.
 //!
 //! Begin with `Trace` in `trace.rt` and `IsNested` in `specs/Nesting.antt`.
 //!
 //! # Example
 //!
+//! From `trace_tests/src/runs.rt`.
+//!
 //! ```text
-//! let trace = Trace::new(rt, alloc, 4)?;
-//! let output = run_observed(&Traced::new(rt, Some(&trace)), alloc, 4, 8, task);
-//! let text = chrome_trace(alloc, trace.into_events(alloc)?.as_slice())?;
+//! let trace = Trace::new(rt, alloc, harts)?;
+//! let handle = Traced::new(rt, Some(&trace));
+//! let count = run_observed(&handle, alloc, harts, levels, tree).ok();
+//! drop(handle);
+//! let events = trace.into_events(alloc)?;
+//! Ok((count, chrome_trace(alloc, events.as_slice())?))
 //! ```
 #![tactic(auto)]
 

@@ -2,7 +2,19 @@
 //!
 //! Each hart registers, closes, checks and unregisters sites of its own, which lie under the base. The program prints to
 //! standard error, in nanoseconds, the time of the slowest hart divided by the number of all Register and Unregister: the best
-//! and the median of 150 new boards. `docs/PERFORMANCE.md` has its table. Begin with `rounds` in `rounds.rt`.
+//! and the median of 150 new boards. It does so for 1, 2 and 4 harts.
+//!
+//! The program shows what harts cost each other that write one word of a board. Begin with `rounds` in `rounds.rt`, which
+//! measures one layout for a number of harts. `visit_all` in `visits.rt` makes the transfers of one hart.
+//!
+//! # Example
+//!
+//! The commands and a table of what they printed are in `docs/PERFORMANCE.md`, in the section "A transfer".
+//!
+//! ```text
+//! (cd crates/transfer_speeds && rt run)
+//! chrt -r 1 crates/transfer_speeds/out/transfer_speeds
+//! ```
 #![tactic(auto)]
 
 mod rounds;

@@ -30,7 +30,7 @@ pub struct Times {
     pub median: u64,
 }
 
-/// The times of so many harts, over all rounds.
+/// The times of a transfer for `harts` harts that share a board: the best and the median of all rounds.
 ///
 /// # Errors
 ///
@@ -57,7 +57,7 @@ pub fn rounds<L: Laid + Sync, R: Threads + Clock + Sync>(
     Ok(Times { best, median })
 }
 
-// A plan for so many harts, whose sites all lie under the base.
+// A plan for `harts` harts, whose sites all lie under the base.
 fn plan_of(alloc: Global, harts: u8) -> io::Result<Plan>
     ensures harts { IfOk result (λ plan. plan.harts ≡ harts) }
     ensures flat { IfOk result IsFlat }

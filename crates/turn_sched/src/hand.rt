@@ -56,7 +56,7 @@ impl<'a, C, R> TurnsHand<'a, C, R> {
 }
 
 impl<'a, C: Drop + 'a, R: Wait + 'a> TurnsHand<'a, C, R> {
-    /// What `put_last` of the scheduler does, under the lock.
+    /// Puts a context last, under the scheduler's lock: one that isn't begun, or one that was paused. May block.
     ///
     /// # Errors
     ///

@@ -4,7 +4,7 @@ use Rattle.pipe_walk.specs.declared.touch.Touch.{Touch}
 use Rattle.pipe_walk.specs.Inside.Members.{joined, touch_in}
 use Rattle.pipe_walk.specs.Inside.Tables.{passed, past_in}
 use Rattle.pipe_walk.specs.Inside.Cells.{CellParts}
-use Rattle.pipe_walk.proofs.CellLemmas.{IsSettling, settling_none, settling_more, settling_all}
+use Rattle.pipe_walk.proofs.CellLemmas.{IsSettling, settling_none, settling_more}
 use Rattle.pipe_walk.proofs.cells.Cells.settle_all.Goals as goal
 
 pub loop-cell-init : goal.loop-cell-init

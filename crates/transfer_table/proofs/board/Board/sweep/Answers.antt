@@ -12,7 +12,7 @@ loop-i-preserved c =
     let same = c.loop-i.invariant.0 in let inv = c.loop-i.invariant.1 in
     let plan : c.self-in-loop-i.inside.plan ≡ c.args.self.now.plan = ap (λ (q : Position). q.plan) c.self-in-loop-i.view_is ∙ same in
     let ends = subst (λ (q : Position). AreEnds q.plan c.self.inside.ends.items) c.self.view_is c.self.invariant.bounds in
-    let few = end_few c.args.self.now.plan c.self.inside.ends.items c.args.site c.index-i-end.result.now ends c.requires.1 c.index-i-end.ensures in
+    let few = end_few c.args.self.now.plan c.self.inside.ends.items c.args.site c.index.result.now ends c.requires.1 c.index.ensures in
     let lt : c.loop-i.i < site_count c.args.self.now.plan = let a = c.loop-i-test.true in omega arith in
     let test = ap (λ (p : Plan). is_within p c.args.site (c.loop-i.i + 1)) (sym plan) ∙ sym c.is_within.ensures in
     elim c.if-is_within.branch [
@@ -32,7 +32,7 @@ pub returns : goal.returns
 returns c =
     let same = c.loop-i.invariant.0 in let inv = c.loop-i.invariant.1 in
     let ends = subst (λ (q : Position). AreEnds q.plan c.self.inside.ends.items) c.self.view_is c.self.invariant.bounds in
-    let none = none_after c.args.self.now.plan c.self.inside.ends.items c.args.site c.index-i-end.result.now ends c.requires.1 c.index-i-end.ensures in
+    let none = none_after c.args.self.now.plan c.self.inside.ends.items c.args.site c.index.result.now ends c.requires.1 c.index.ensures in
     let over = swept_over c.args.self.now.plan c.args.site c.args.self.now.state c.loop-i.self.state c.loop-i.i
     (λ j above small w. none j (let a = c.loop-i-test.false in omega arith) small w) inv in
     λ k. record { plan = same k; state = over k }
