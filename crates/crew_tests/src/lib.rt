@@ -11,4 +11,6 @@ mod gates;
 #[cfg(test)]
 mod lengths;
 #[cfg(test)]
+mod searches;
+#[cfg(test)]
 mod trees;

@@ -7,7 +7,7 @@ use std::alloc::{AllocError, Global};
 use std::sync::Wait;
 use std::test::Fail;
 use std::thread::Threads;
-use task_crew::{RunError, run_on};
+use task_crew::{RunError, run_on, run_on_eight_levels};
 use tasks::{Harts, Task, TaskKind};
 
 /// A task with so many levels of tasks inside it, each of so many tasks. Its output is the number of its leaves. Each leaf
@@ -99,40 +99,72 @@ fn two_tasks_meet_on_two_harts(rt: HostRuntime) -> Result<(), Fail> {
     Ok(())
 }
 
+// The number of rounds of a test.
+const ROUNDS: u32 = 200;
+
+// Whether a tree has this many leaves in each of 200 runs on so many harts.
+fn meet_each_time<R: Threads + Wait + Sync>(
+    rt: &R,
+    alloc: Global,
+    harts: u8,
+    tree: (u8, u8, bool),
+    wanted: u64,
+    expected: u64,
+) -> bool {
+    for _round in 0..ROUNDS {
+        if leaves(rt, alloc, harts, tree, wanted) != Some(expected) {
+            return false;
+        }
+    }
+    true
+}
+
 #[test]
-fn nested_tasks_meet_on_two_harts(rt: HostRuntime) -> Result<(), Fail> {
-    assert_eq!(rt; leaves(&rt, rt.alloc(), 2, (2, 2, true), 2), Some(3));
-    assert_eq!(rt; leaves(&rt, rt.alloc(), 2, (3, 2, true), 2), Some(4));
+fn siblings_two_levels_deep_meet_on_two_harts(rt: HostRuntime) -> Result<(), Fail> {
+    assert!(rt; meet_each_time(&rt, rt.alloc(), 2, (2, 2, true), 2, 3));
     Ok(())
 }
 
 #[test]
-fn nested_tasks_meet_on_four_harts(rt: HostRuntime) -> Result<(), Fail> {
+fn siblings_three_levels_deep_meet_on_two_harts(rt: HostRuntime) -> Result<(), Fail> {
+    assert!(rt; meet_each_time(&rt, rt.alloc(), 2, (3, 2, true), 2, 4));
+    Ok(())
+}
+
+#[test]
+fn siblings_two_levels_deep_meet_on_four_harts(rt: HostRuntime) -> Result<(), Fail> {
+    assert!(rt; meet_each_time(&rt, rt.alloc(), 4, (2, 2, false), 4, 4));
+    Ok(())
+}
+
+#[test]
+fn siblings_three_levels_deep_meet_on_four_harts(rt: HostRuntime) -> Result<(), Fail> {
+    assert!(rt; meet_each_time(&rt, rt.alloc(), 4, (3, 2, true), 2, 4));
+    Ok(())
+}
+
+#[test]
+fn siblings_two_levels_deep_meet_on_sixteen_harts(rt: HostRuntime) -> Result<(), Fail> {
+    assert!(rt; meet_each_time(&rt, rt.alloc(), 16, (2, 4, false), 16, 16));
+    Ok(())
+}
+
+#[test]
+fn siblings_three_levels_deep_meet_on_sixteen_harts(rt: HostRuntime) -> Result<(), Fail> {
+    assert!(rt; meet_each_time(&rt, rt.alloc(), 16, (3, 2, false), 8, 8));
+    Ok(())
+}
+
+#[test]
+fn tasks_of_one_site_meet(rt: HostRuntime) -> Result<(), Fail> {
     assert_eq!(rt; leaves(&rt, rt.alloc(), 4, (1, 4, false), 4), Some(4));
-    assert_eq!(rt; leaves(&rt, rt.alloc(), 4, (2, 2, false), 4), Some(4));
-    assert_eq!(rt; leaves(&rt, rt.alloc(), 4, (3, 2, true), 2), Some(4));
-    Ok(())
-}
-
-#[test]
-fn nested_tasks_meet_on_sixteen_harts(rt: HostRuntime) -> Result<(), Fail> {
     assert_eq!(rt; leaves(&rt, rt.alloc(), 16, (1, 16, false), 16), Some(16));
-    assert_eq!(rt; leaves(&rt, rt.alloc(), 16, (2, 4, false), 16), Some(16));
-    assert_eq!(rt; leaves(&rt, rt.alloc(), 16, (3, 2, false), 8), Some(8));
     Ok(())
 }
 
 #[test]
 fn sixty_four_tasks_meet_on_sixty_four_harts(rt: HostRuntime) -> Result<(), Fail> {
     assert_eq!(rt; leaves(&rt, rt.alloc(), 64, (2, 8, false), 64), Some(64));
-    Ok(())
-}
-
-#[test]
-fn two_hundred_runs_meet(rt: HostRuntime) -> Result<(), Fail> {
-    for _round in 0..200 {
-        assert_eq!(rt; leaves(&rt, rt.alloc(), 4, (2, 2, false), 4), Some(4));
-    }
     Ok(())
 }
 
@@ -149,5 +181,44 @@ fn deep_trees_have_all_leaves(rt: HostRuntime) -> Result<(), Fail> {
     assert_eq!(rt; leaves(&rt, rt.alloc(), 7, (5, 3, false), 1), Some(243));
     assert_eq!(rt; leaves(&rt, rt.alloc(), 4, (16, 1, false), 1), Some(1));
     assert_eq!(rt; leaves(&rt, rt.alloc(), 4, (1, 0, false), 0), Some(0));
+    Ok(())
+}
+
+// The number of leaves of a tree with so many levels, by the run that has at most eight.
+fn leaves_within_eight<R: Threads + Wait + Sync>(
+    rt: &R,
+    alloc: Global,
+    harts: u8,
+    levels: u8,
+) -> Result<u64, RunError<AllocError>> {
+    let gate = Gate::new(1);
+    let task = Tree {
+        levels,
+        width: 2,
+        lopsided: false,
+        quiet: false,
+        gate: &gate,
+    };
+    run_on_eight_levels(rt, alloc, harts, levels, task)
+}
+
+#[test]
+fn eight_levels_run_and_a_ninth_is_refused(rt: HostRuntime) -> Result<(), Fail> {
+    for harts in [1u8, 2, 4] {
+        assert_eq!(rt; leaves_within_eight(&rt, rt.alloc(), harts, 8), Ok(256));
+        assert_eq!(rt; leaves_within_eight(&rt, rt.alloc(), harts, 0), Ok(1));
+        assert_eq!(rt;
+            leaves_within_eight(&rt, rt.alloc(), harts, 9),
+            Err(RunError::LevelCount(9))
+        );
+    }
+    assert_eq!(rt;
+        leaves_within_eight(&rt, rt.alloc(), 0, 9),
+        Err(RunError::HartCount(0))
+    );
+    assert_eq!(rt;
+        leaves_within_eight(&rt, rt.alloc(), 65, 8),
+        Err(RunError::HartCount(65))
+    );
     Ok(())
 }

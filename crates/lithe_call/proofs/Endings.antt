@@ -250,10 +250,10 @@ no_verdict_of_no_run harts first second (fault.Refused line) h = h
 no_verdict_of_no_run harts first second fault.Memory h = tt
 
 -- ---- the line of a status, if the source's bytes are known
-printed_of : (IsSo : Command → List ℕ → List ℕ → Type 0) → ((seed size harts : ℕ) (a b line : List ℕ) → IsSo (Make seed size harts) a line → IsSo (Make seed size harts) b line)
+reported_of : (IsSo : Command → List ℕ → List ℕ → Type 0) → ((seed size harts : ℕ) (a b line : List ℕ) → IsSo (Make seed size harts) a line → IsSo (Make seed size harts) b line)
     → (words : List (List ℕ)) (left left' : Option (List ℕ)) (line : List ℕ) → IsPrintedOf IsSo words left left' line
     → (command : Command) → form_of words ≡ Some command → (bytes : List ℕ) → AreInput command left bytes → IsSo command bytes line
-printed_of IsSo any words left left' line is command form bytes e =
+reported_of IsSo any words left left' line is command form bytes e =
     of_words (λ c b. IsSo c b line) (λ seed size harts a b own. any seed size harts a b line own) words is.command command bytes is.bytes left left' is.form form e is.given is.is
 
 pub too_long_input : (words : List (List ℕ)) (left left' : Option (List ℕ)) → IsTooLong words left left' → (command : Command) → form_of words ≡ Some command
@@ -267,8 +267,8 @@ too_long_input words left left' long command form bytes e =
 
 pub line_printed : (words : List (List ℕ)) (ended : Status) (left left' : Option (List ℕ)) (line : List ℕ) → IsTextOf words ended left left' line
     → (command : Command) → form_of words ≡ Some command → (bytes : List ℕ) → AreInput command left bytes → IsLineOf command ended bytes line
-line_printed words status.Syntax left left' line is command form bytes e = printed_of IsNoText (λ seed size harts a b l own. own) words left left' line is command form bytes e
-line_printed words status.Refused left left' line is command form bytes e = printed_of IsRefused (λ seed size harts a b l own. own) words left left' line is command form bytes e
+line_printed words status.Syntax left left' line is command form bytes e = reported_of IsNoText (λ seed size harts a b l own. own) words left left' line is command form bytes e
+line_printed words status.Refused left left' line is command form bytes e = reported_of IsRefused (λ seed size harts a b l own. own) words left left' line is command form bytes e
 line_printed words status.Done left left' line is command form bytes e = is
 line_printed words status.Illegal left left' line is command form bytes e = is
 line_printed words status.Usage left left' line is command form bytes e = is

@@ -15,7 +15,7 @@ use Rattle.disjoint_check.proofs.Accepting.{none_of_meaning, none_of_accepted}
 use Rattle.spread_laws.specs.Faults.{SpreadFault, spread_fault_of}
 use Rattle.spread_laws.specs.Served.{HasMeaning, IsTallyKept}
 use Rattle.spread_laws.specs.Spread.{spread_of}
-use Rattle.tally_cells.specs.FaultOf.{printed_of}
+use Rattle.tally_cells.specs.FaultOf.{reported_of}
 use Rattle.tally_cells.specs.declared.fault.TallyFault.{TallyFault}
 use Rattle.tally_cells.specs.declared.fault.TallyFault.TheVariants as tally
 use Rattle.error_text.specs.TallyText.{tally_text}
@@ -79,12 +79,12 @@ meaning_printed harts program cause (fault.Refused line) prints first = elim fir
 meaning_printed harts program cause fault.Memory prints first = tt
 
 -- The program's adds are refused.
-given_fault : (found : Option SpreadFault) (cause : TallyFault) → option_map printed_of found ≡ Some cause → (f : SpreadFault) × (found ≡ Some f) × (printed_of f ≡ cause)
+given_fault : (found : Option SpreadFault) (cause : TallyFault) → option_map reported_of found ≡ Some cause → (f : SpreadFault) × (found ≡ Some f) × (reported_of f ≡ cause)
 given_fault None cause e = cc e
-given_fault (Some f) cause e = (f, refl, same_Some (printed_of f) cause e)
+given_fault (Some f) cause e = (f, refl, same_Some (reported_of f) cause e)
 
 pub adds_printed : (harts : ℕ) (program : ProgramTree) (cause : TallyFault) (why : Fault) → HasMeaningFor program harts → PrintsTally cause why
-    → (cause ≡ tally.Memory) ⊎ (option_map printed_of (spread_fault_of program) ≡ Some cause) → PrintsUntallied harts program why
+    → (cause ≡ tally.Memory) ⊎ (option_map reported_of (spread_fault_of program) ≡ Some cause) → PrintsUntallied harts program why
 adds_printed harts program cause fault.Usage meaning prints first = absurd prints
 adds_printed harts program cause fault.TooLong meaning prints first = absurd prints
 adds_printed harts program cause fault.ReadFault meaning prints first = absurd prints

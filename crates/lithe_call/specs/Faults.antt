@@ -18,7 +18,7 @@ use Rattle.pipe_walk.specs.declared.fault.PipeFault.{PipeFault}
 use Rattle.pipe_walk.specs.declared.fault.PipeFault.TheVariants as pipe
 use Rattle.spread_laws.specs.Faults.{SpreadFault, spread_fault_of}
 use Rattle.spread_laws.specs.Spread.{spread_of}
-use Rattle.tally_cells.specs.FaultOf.{printed_of}
+use Rattle.tally_cells.specs.FaultOf.{reported_of}
 use Rattle.lithe_call.specs.Inputs.{ReadsAll, GivesTooMuch, FailsToRead}
 use Rattle.lithe_call.specs.Programs.{made_text, SpellAccepted}
 use Rattle.lithe_call.specs.Tallies.{IsTallied}
@@ -64,7 +64,7 @@ pub record IsUnspread (harts : ℕ) (program : ProgramTree) (line : List ℕ) : 
   pub meaning : HasMeaningFor program harts
   pub fault : SpreadFault
   pub first : spread_fault_of program ≡ Some fault
-  pub printed : line ≡ tally_text (printed_of fault)
+  pub printed : line ≡ tally_text (reported_of fault)
 
 -- The program has a meaning and its adds can have rows, but with them it isn't accepted, and the line is about the program with
 -- rows.

@@ -1,5 +1,4 @@
 -- The bytes that a call has read and written. A source that shows its bytes had exactly these left. `make` reads none.
--- just these left. `make` reads none.
 use Rattle.std.specs.Prelude.{◌≡◌, ◌≢◌, ◌⊎◌, ℕ, List, Option, Some, None}
 use Rattle.outside_io.specs.Outside.{Rose, Appends}
 use Rattle.lithe_call.specs.Printing.{AppendsPrefix, Prints}

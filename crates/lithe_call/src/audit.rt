@@ -85,6 +85,10 @@ fn verdict(alloc: Global, harts: u8, first: &[u8], second: &[u8]) -> Result<Verd
 }
 
 /// The fault of a second part that is no output's text.
+///
+/// # Memory
+///
+/// It allocates the fault's line. If that fails, it returns `Fault::Memory`.
 pub fn text_fault(alloc: Global, fault: TextFault) -> Fault
     ensures { PrintsText fault result }
 {

@@ -47,6 +47,10 @@ use std::thread::Threads;
 ///
 /// The whole output is built before its first byte is written, so an error leaves the output empty. For each status its text is
 /// written to `err`, and a failure of `err` changes no status.
+///
+/// # Memory
+///
+/// It allocates the input, the program, its run and the output. If an allocation fails, the status is NoMemory.
 pub fn lithe<R: Threads + Wait + Sync, A: Source, B: Sink, E: Sink, G: Gate>(
     rt: &R,
     alloc: Global,

@@ -61,6 +61,10 @@ pub fn piped<R: Threads + Wait + Sync, G: Gate>(
 }
 
 /// The fault of a program with a crossing of two pieces.
+///
+/// # Memory
+///
+/// It allocates the fault's line. If that fails, it returns `Fault::Memory`.
 pub fn crossing_fault(alloc: Global, program: &Program, fault: PipeFault) -> Fault
     ensures { PrintsCrossing (program_of program.now) fault result }
 {

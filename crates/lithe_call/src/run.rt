@@ -69,6 +69,10 @@ pub fn answer<R: Threads + Wait + Sync, G: Gate>(
 }
 
 /// The fault of a text that spells no program.
+///
+/// # Memory
+///
+/// It allocates the fault's line. If that fails, it returns `Fault::Memory`.
 pub fn syntax_fault(alloc: Global, fault: SyntaxFault) -> Fault
     ensures { PrintsSyntax fault result }
 {
@@ -82,6 +86,10 @@ pub fn syntax_fault(alloc: Global, fault: SyntaxFault) -> Fault
 }
 
 /// The fault of a program that isn't accepted.
+///
+/// # Memory
+///
+/// It allocates the fault's line. If that fails, it returns `Fault::Memory`.
 pub fn refusal(alloc: Global, program: &Program, fault: CheckFault) -> Fault
     ensures { PrintsRefusal (program_of program.now) fault result }
 {

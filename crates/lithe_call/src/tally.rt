@@ -63,7 +63,16 @@ pub fn tallied<R: Threads + Wait + Sync, G: Gate>(
     }
 }
 
-/// The program in which each branch or member adds into a row of its own, or why `tally` takes no such program.
+/// The program in which each branch or member adds into a row of its own. `harts` is 1 to 16.
+///
+/// # Errors
+///
+/// `Fault::Refused` if the program has no meaning on `harts` harts, or its branches and members can't have rows of their own.
+/// `Memory` if an allocation fails.
+///
+/// # Memory
+///
+/// It allocates a copy of the program.
 pub fn with_rows(alloc: Global, harts: u8, program: &Program) -> Result<Program, Fault>
     requires some_hart { 1 ≤ harts }
     requires few_harts { harts ≤ 16 }

@@ -15,13 +15,13 @@ IsReason harts WrongCount = Unit {0}
 IsReason harts (OutOfOrder position hart) = (position < harts) × (hart ≢ position)
 IsReason harts (InSite hart site) = (hart < harts) × (site ≢ 0)
 
--- Why a run on so many harts with so many levels has no output: there are no harts or more than 64, there are more than 16
--- levels, the task failed or an allocation failed, or the board refused to end.
-abbrev pub RunFails : {E : Type 0} → ℕ → ℕ → (E → Type 0) → (E → Type 0) → RunError E → Type 0
-RunFails harts levels fails memory (HartCount n) = (n ≡ harts) × ((harts ≡ 0) ⊎ (64 < harts))
-RunFails harts levels fails memory (LevelCount n) = (n ≡ levels) × (16 < levels)
-RunFails harts levels fails memory (Task error) = fails error ⊎ memory error
-RunFails harts levels fails memory (NotEnded why) = IsReason harts why
+-- Why a run on so many harts with so many levels, of at most `most`, has no output: there are no harts or more than 64, there
+-- are more levels than `most`, the task failed or an allocation failed, or the board refused to end.
+abbrev pub RunFails : {E : Type 0} → ℕ → ℕ → ℕ → (E → Type 0) → (E → Type 0) → RunError E → Type 0
+RunFails most harts levels fails memory (HartCount n) = (n ≡ harts) × ((harts ≡ 0) ⊎ (64 < harts))
+RunFails most harts levels fails memory (LevelCount n) = (n ≡ levels) × (most < levels)
+RunFails most harts levels fails memory (Task error) = fails error ⊎ memory error
+RunFails most harts levels fails memory (NotEnded why) = IsReason harts why
 
 -- With these seats a board of this size has ended: each of its harts is at the base again, and all that the harts did is a list
 -- of entries that the table of lent harts admits, after which no site is live.

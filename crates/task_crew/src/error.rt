@@ -6,7 +6,7 @@ use open_board::NotEnded;
 pub enum RunError<E> {
     /// The number of harts is not 1 to 64. Nothing was started.
     HartCount(u8),
-    /// There are more than 16 levels. Nothing was started.
+    /// There are more levels than the call admits, 16 or 8. Nothing was started.
     LevelCount(u8),
     /// The task failed with this error, or an allocation failed.
     Task(E),

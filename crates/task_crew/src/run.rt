@@ -14,7 +14,7 @@ use std::thread;
 use std::thread::Threads;
 use task_sites::{Crew, Hart, Levels, Naming, NoLevel, Observer, OneMore, Unobserved, serve_base};
 use task_table::Outcome;
-use tasks::Task;
+use tasks::{Task, run_alone};
 
 /// The most harts of a run.
 pub const MOST_HARTS: u8 = 64;
@@ -22,11 +22,15 @@ pub const MOST_HARTS: u8 = 64;
 /// The most levels of a run.
 pub const MOST_LEVELS: u8 = 16;
 
-// Four levels more than `L`. Why four at a time: a goal that names sixteen is too large to prove.
-type FourMore<L> = OneMore<OneMore<OneMore<OneMore<L>>>>;
+/// Four levels more than `L`. Why four at a time: a goal that names sixteen is too large to prove.
+pub(crate) type FourMore<L> = OneMore<OneMore<OneMore<OneMore<L>>>>;
 
 /// Runs a task on `harts` harts, with at most `levels` levels of tasks inside it, and returns its output. `harts` is 1 to 64,
-/// and `levels` is 0 to 16. When it returns, all tasks have ended, and all threads that it started.
+/// and `levels` is 0 to 16. When it returns, all tasks have ended, and all threads that it started. If it doesn't return
+/// `NotEnded`, then by the contract of `go_home` each hart is at the base again, with transfers that the table admits.
+///
+/// Levels beyond the depth of the task cost memory alone. The task, its output and its error are `Send`, so what the task borrows
+/// is `Sync`.
 ///
 /// # Errors
 ///
@@ -35,8 +39,8 @@ type FourMore<L> = OneMore<OneMore<OneMore<OneMore<L>>>>;
 ///
 /// # Memory
 ///
-/// `64 * (harts * levels + 1)` bytes for the board, a few words for each of the `harts * levels` sites, and some cache lines
-/// for each hart.
+/// On two harts and more: `64 * (harts * levels + 1)` bytes for the board, a few words for each of the `harts * levels` sites,
+/// and some cache lines for each hart.
 pub fn run_on<T: Task + Send, R: Threads + Wait + Sync>(
     rt: &R,
     alloc: Global,
@@ -50,11 +54,17 @@ where
     requires { T.depth task ≤ levels }
     ensures output { IfOk result (λ output. T.gives task output) }
     ensures error { IfErr result
-        (RunFails harts levels (T.fails task) (T.Error.from_gives alloc_error)) }
+        (RunFails 16 harts levels (T.fails task) (T.Error.from_gives alloc_error)) }
     ensures harts { (harts ≡ 0) ⊎ (64 < harts) → result ≡ Err (RunError.HartCount harts) }
     ensures levels { (1 ≤ harts) → (harts ≤ 64) → (16 < levels) → result
         ≡ Err (RunError.LevelCount levels) }
 {
+    if harts == 1 && levels <= MOST_LEVELS {
+        return match run_alone(alloc, task) {
+            Ok(output) => Ok(output),
+            Err(error) => Err(RunError::Task(error)),
+        };
+    }
     let unobserved = Unobserved::new(rt);
     run_observed::<T, Unobserved<'_, R>>(&unobserved, alloc, harts, levels, task)
 }
@@ -67,7 +77,7 @@ where
 ///
 /// # Memory
 ///
-/// As [`run_on`]'s.
+/// As [`run_on`]'s, also on one hart.
 pub fn run_observed<T: Task + Send, R: Threads + Observer + Sync>(
     rt: &R,
     alloc: Global,
@@ -81,7 +91,7 @@ where
     requires { T.depth task ≤ levels }
     ensures output { IfOk result (λ output. T.gives task output) }
     ensures error { IfErr result
-        (RunFails harts levels (T.fails task) (T.Error.from_gives alloc_error)) }
+        (RunFails 16 harts levels (T.fails task) (T.Error.from_gives alloc_error)) }
     ensures harts { (harts ≡ 0) ⊎ (64 < harts) → result ≡ Err (RunError.HartCount harts) }
     ensures levels { (1 ≤ harts) → (harts ≤ 64) → (16 < levels) → result
         ≡ Err (RunError.LevelCount levels) }
@@ -118,7 +128,7 @@ where
     requires levels { levels ≤ 16 }
     ensures output { IfOk result (λ output. T.gives task output) }
     ensures error { IfErr result
-        (RunFails board.size.harts levels (T.fails task) (T.Error.from_gives alloc_error)) }
+        (RunFails 16 board.size.harts levels (T.fails task) (T.Error.from_gives alloc_error)) }
 {
     let crew = match Crew::<T, B>::new(alloc, board) {
         Ok(crew) => crew,
@@ -137,8 +147,8 @@ where
     }
 }
 
-// Ends a board: all harts are at the base again.
-fn go_home(board: OpenBoard, seats: Vec<OpenSeat>) -> Result<(), NotEnded>
+/// Ends a board: all harts are at the base again.
+pub(crate) fn go_home(board: OpenBoard, seats: Vec<OpenSeat>) -> Result<(), NotEnded>
     requires { All (IsOf board) seats.items }
     ensures ended { IfOk result (λ _. AllAreHome board.size seats.items) }
     ensures refused { IfErr result (IsReason board.size.harts) }
@@ -266,8 +276,8 @@ where
     run_crew_with::<B, T, R, FourMore<L>>(rt, alloc, crew, seats, levels, task)
 }
 
-// The same, with the levels of `L`.
-fn run_crew_with<B, T, R, L>(
+/// Runs a task as `run_crew` does, with the levels of `L`.
+pub(crate) fn run_crew_with<B, T, R, L>(
     rt: &R,
     alloc: Global,
     crew: &Crew<T, B>,
@@ -293,6 +303,11 @@ where
     let room = Vec::with_capacity(alloc, seats.len())?;
     let home: Hart<'_, T, R, B> = Hart::new(rt, crew, seats.remove(0));
     let guests = seated(rt, alloc, crew, seats)?;
+    // Why: `join` starts a thread, also for no guest.
+    if guests.is_empty() {
+        let (home, outcome) = run_home::<B, T, R, L>(alloc, crew, home, levels, task);
+        return Ok((outcome, seats_of(room, home, guests)?));
+    }
     let (guests, (home, outcome)) = thread::join(
         rt,
         move || serve_all::<B, T, R, L>(rt, alloc, guests),

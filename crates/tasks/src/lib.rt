@@ -3,7 +3,8 @@
 //! An author states what tasks of a kind output ([`TaskKind`]) and how a task runs ([`Task`]). Inside `run`, the author calls
 //! [`Harts::fork_join`] with a list of tasks. The call returns their outputs in order, or the error of the first task that
 //! failed. The type that implements [`Harts`] decides how many harts there are, and which hart runs which task. This crate has
-//! one hart, which runs the tasks in order ([`run_alone`]); `task_crew` has several.
+//! one hart, which runs the tasks in order ([`run_alone`]); `task_crew` has several. A library whose tasks run inside tasks of
+//! other kinds is written over `held_tasks`, and calls `fork_join_as` instead.
 //!
 //! # Example
 //!
@@ -19,7 +20,7 @@
 //!     ghost depth = { λ task. task.cuts };
 //! }
 //!
-//! Impl<'p> Task for Digits<'p> {
+//! impl<'p> Task for Digits<'p> {
 //!     fn run<H: Harts<Self>>(self, alloc: Global, harts: &mut H) -> Result<u64, DigitError> {
 //!         let Digits { text, cuts } = self;
 //!         if cuts == 0 || text.len() < 2 {
@@ -32,7 +33,7 @@
 //!         let sums = harts.fork_join(alloc, halves)?;
 //!         Ok(sums.iter().fold(0u64, |sum, part| sum.wrapping_mul(100).wrapping_add(*part)))
 //!     }
-//! }.
+//! }
 //!
 //! run_alone(alloc, Digits { text, cuts })
 //! ```

@@ -7,19 +7,21 @@ use std::alloc::{AllocError, Global};
 
 /// The outputs and the errors of tasks of a kind.
 pub trait TaskKind: Drop {
-    /// The output of a task.
+    /// The output of a task. It may borrow what the task borrows.
     type Output: Drop;
 
-    /// Why a task fails. An allocation failure becomes such an error by `From`.
+    /// Why a task fails. An allocation failure becomes such an error by `From`: `Error.from_gives alloc_error error` states that
+    /// `error` is this error. Tasks that have no error of their own have `AllocError` here, and `⊥` for `fails`.
     type Error: Drop + From<AllocError>;
 
-    /// The outputs that a task may have, on any hart.
+    /// The outputs that a task may have, on any hart. What a reference in a task points to is `task.field.now`.
     ghost gives: { Self → Self.Output → Type 0 };
 
     /// The errors that a task may fail with, beside an allocation failure.
     ghost fails: { Self → Self.Error → Type 0 };
 
-    /// How many levels of tasks may be inside a task.
+    /// How many levels of tasks may be inside a task: 0 if it runs no tasks, and otherwise more than the depth of each task that
+    /// it runs. Mostly a field of the task, by which `run` decides whether it runs tasks.
     ghost depth: { Self → ℕ };
 }
 
@@ -28,7 +30,7 @@ pub trait TaskKind: Drop {
 /// Why a trait of its own: a library's procedure needs to know the outputs of tasks, and not how the tasks around it run. So
 /// [`Harts`] requires only a [`TaskKind`], and the procedure runs inside tasks of any kind.
 pub trait Task: TaskKind {
-    /// Runs the task on a hart. The task may run tasks inside it by `harts`.
+    /// Runs the task on a hart. The task may run tasks inside it by `harts`. An `impl` without clauses has these.
     ///
     /// # Errors
     ///
@@ -48,9 +50,18 @@ pub trait Harts<T: TaskKind> {
 
     /// Runs tasks, each on some hart, and returns their outputs in order. It returns once all tasks have ended.
     ///
+    /// A function that makes the list ensures that each depth is small enough, by `All`. Its caller then needs no proof of what
+    /// this call requires. A proof about the outputs goes down both lists of `AllZip`, or takes one index (`AllZip-get_or` of the
+    /// kit's `List.Elements`).
+    ///
     /// # Errors
     ///
-    /// The error of the first task, in the order of the list, that failed, or an allocation failure.
+    /// The error of the first task, in the order of the list, that failed, or an allocation failure. On several harts a task that
+    /// fails stops no other. A hart that runs the tasks in order drops those after the first that fails.
+    ///
+    /// # Memory
+    ///
+    /// A list of the outputs, and on several harts a table of the tasks.
     fn fork_join(&mut self, alloc: Global, tasks: Vec<T>) -> Result<Vec<T::Output>, T::Error>
         requires { All (λ task. T.depth task < levels self.old) tasks.items }
         ensures outputs { IfOk result (λ outputs. AllZip T.gives tasks.items outputs.items) }

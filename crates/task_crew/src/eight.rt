@@ -1,0 +1,186 @@
+//! Runs with at most eight levels.
+ghost use Rattle.std.specs.Prelude.{◌≡◌, ◌<◌, ◌≤◌, ◌⊎◌, IfOk, IfErr, vec_len, alloc_error, Err};
+ghost use Rattle.std.specs.List.{All};
+ghost use Rattle.open_board.specs.Of.{IsOf};
+ghost use Rattle.task_table.specs.Slots.{Ends};
+ghost use Rattle.task_crew.specs.Runs.{RunFails, IsSeatOf};
+
+use crate::error::RunError;
+use crate::run::{FourMore, MOST_HARTS, go_home, run_crew_with};
+use open_board::{OpenBoard, OpenSeat};
+use std::alloc::{AllocError, Global};
+use std::marker::Brand;
+use std::sync::Wait;
+use std::thread::Threads;
+use task_sites::{Crew, Levels, Naming, NoLevel, Observer, Unobserved};
+use task_table::Outcome;
+use tasks::Task;
+
+// The most levels of these runs.
+const EIGHT: u8 = 8;
+
+/// Runs a task as [`run_on`](crate::run_on) does, with at most eight levels of tasks inside it. `levels` is 0 to 8.
+///
+/// A program has a copy of the tasks' code for each level that a run may have. So with this call the program is smaller than with
+/// `run_on`, and is built faster.
+///
+/// # Errors
+///
+/// As those of `run_on`, but `LevelCount` if there are more than eight levels.
+///
+/// # Memory
+///
+/// As that of [`run_observed`](crate::run_observed).
+pub fn run_on_eight_levels<T: Task + Send, R: Threads + Wait + Sync>(
+    rt: &R,
+    alloc: Global,
+    harts: u8,
+    levels: u8,
+    task: T,
+) -> Result<T::Output, RunError<T::Error>>
+where
+    T::Output: Send,
+    T::Error: Send,
+    requires { T.depth task ≤ levels }
+    ensures output { IfOk result (λ output. T.gives task output) }
+    ensures error { IfErr result
+        (RunFails 8 harts levels (T.fails task) (T.Error.from_gives alloc_error)) }
+    ensures harts { (harts ≡ 0) ⊎ (64 < harts) → result ≡ Err (RunError.HartCount harts) }
+    ensures levels { (1 ≤ harts) → (harts ≤ 64) → (8 < levels) → result
+        ≡ Err (RunError.LevelCount levels) }
+{
+    let unobserved = Unobserved::new(rt);
+    run_observed_eight_levels::<T, Unobserved<'_, R>>(&unobserved, alloc, harts, levels, task)
+}
+
+/// Runs a task as [`run_on_eight_levels`] does, with an observer: `rt` gets a call when a task begins and when it ends.
+///
+/// # Errors
+///
+/// As those of [`run_on_eight_levels`].
+///
+/// # Memory
+///
+/// As that of [`run_observed`](crate::run_observed).
+pub fn run_observed_eight_levels<T: Task + Send, R: Threads + Observer + Sync>(
+    rt: &R,
+    alloc: Global,
+    harts: u8,
+    levels: u8,
+    task: T,
+) -> Result<T::Output, RunError<T::Error>>
+where
+    T::Output: Send,
+    T::Error: Send,
+    requires { T.depth task ≤ levels }
+    ensures output { IfOk result (λ output. T.gives task output) }
+    ensures error { IfErr result
+        (RunFails 8 harts levels (T.fails task) (T.Error.from_gives alloc_error)) }
+    ensures harts { (harts ≡ 0) ⊎ (64 < harts) → result ≡ Err (RunError.HartCount harts) }
+    ensures levels { (1 ≤ harts) → (harts ≤ 64) → (8 < levels) → result
+        ≡ Err (RunError.LevelCount levels) }
+{
+    if harts == 0 || harts > MOST_HARTS {
+        return Err(RunError::HartCount(harts));
+    }
+    if levels > EIGHT {
+        return Err(RunError::LevelCount(levels));
+    }
+    match OpenBoard::new(alloc, harts, levels.max(1)) {
+        Ok((board, seats)) => run_named::<Brand, T, R>(rt, alloc, board, seats, levels, task),
+        Err(error) => Err(RunError::Task(T::Error::from(error))),
+    }
+}
+
+// Runs a task on the harts of a board, and ends the board.
+fn run_named<B: Naming + Send + Sync, T: Task + Send, R: Threads + Observer + Sync>(
+    rt: &R,
+    alloc: Global,
+    board: OpenBoard,
+    seats: Vec<OpenSeat>,
+    levels: u8,
+    task: T,
+) -> Result<T::Output, RunError<T::Error>>
+where
+    T::Output: Send,
+    T::Error: Send,
+    requires board { board.table.shared.table_id ≡ B.table }
+    requires size { board.size ≡ B.size }
+    requires seats { All (IsOf board) seats.items }
+    requires some { 1 ≤ vec_len seats }
+    requires depth { T.depth task ≤ levels }
+    requires levels { levels ≤ 8 }
+    ensures output { IfOk result (λ output. T.gives task output) }
+    ensures error { IfErr result
+        (RunFails 8 board.size.harts levels (T.fails task) (T.Error.from_gives alloc_error)) }
+{
+    let crew = match Crew::<T, B>::new(alloc, board) {
+        Ok(crew) => crew,
+        Err(error) => return Err(RunError::Task(T::Error::from(error))),
+    };
+    let (outcome, seats) = match run_crew(rt, alloc, &crew, seats, levels, task) {
+        Ok(ran) => ran,
+        Err(error) => return Err(RunError::Task(T::Error::from(error))),
+    };
+    if let Err(why) = go_home(crew.into_board(), seats) {
+        return Err(RunError::NotEnded(why));
+    }
+    match outcome {
+        Ok(output) => Ok(output),
+        Err(error) => Err(RunError::Task(error)),
+    }
+}
+
+// Runs a task on the first of the harts, while the others are lent to the sites inside it. Returns the outcome and the seats.
+fn run_crew<B, T, R>(
+    rt: &R,
+    alloc: Global,
+    crew: &Crew<T, B>,
+    seats: Vec<OpenSeat>,
+    levels: u8,
+    task: T,
+) -> Result<(Outcome<T>, Vec<OpenSeat>), AllocError>
+where
+    B: Naming + Send + Sync,
+    T: Task + Send,
+    R: Threads + Observer + Sync,
+    T::Output: Send,
+    T::Error: Send,
+    requires seats { All (IsSeatOf B.table B.size) seats.items }
+    requires some { 1 ≤ vec_len seats }
+    requires depth { T.depth task ≤ levels }
+    requires levels { levels ≤ 8 }
+    ensures outcome { IfOk result
+        (λ r. Ends T.gives T.fails (T.Error.from_gives alloc_error) task r.0) }
+    ensures seats { IfOk result (λ r. All (IsSeatOf B.table B.size) r.1.items) }
+{
+    run_over_four::<B, T, R, FourMore<NoLevel>>(rt, alloc, crew, seats, levels, task)
+}
+
+// The same, with four levels more than `L`.
+fn run_over_four<B, T, R, L>(
+    rt: &R,
+    alloc: Global,
+    crew: &Crew<T, B>,
+    seats: Vec<OpenSeat>,
+    levels: u8,
+    task: T,
+) -> Result<(Outcome<T>, Vec<OpenSeat>), AllocError>
+where
+    B: Naming + Send + Sync,
+    T: Task + Send,
+    R: Threads + Observer + Sync,
+    L: Levels<T, R, B> + Send + Sync,
+    T::Output: Send,
+    T::Error: Send,
+    requires count { 4 ≤ L.count }
+    requires seats { All (IsSeatOf B.table B.size) seats.items }
+    requires some { 1 ≤ vec_len seats }
+    requires depth { T.depth task ≤ levels }
+    requires levels { levels ≤ 8 }
+    ensures outcome { IfOk result
+        (λ r. Ends T.gives T.fails (T.Error.from_gives alloc_error) task r.0) }
+    ensures seats { IfOk result (λ r. All (IsSeatOf B.table B.size) r.1.items) }
+{
+    run_crew_with::<B, T, R, FourMore<L>>(rt, alloc, crew, seats, levels, task)
+}
