@@ -2,8 +2,8 @@ use Rattle.std.proofs.Common.{[], ◌∷◌}
 use Rattle.std.proofs.lemmas.Result.{on_ok_weaker}
 use Rattle.array_tree.specs.Trees.{sequences_of}
 use Rattle.journal_picture.proofs.Written.{more}
-use Rattle.run_picture.specs.Shapes.{branches_shapes, par_shape, phases_shapes, team_shape}
-use Rattle.run_picture.proofs.shapes.+shapes.Goals as goal
+use Rattle.picture_call.specs.Shapes.{branches_shapes, par_shape, phases_shapes, team_shape}
+use Rattle.picture_call.proofs.shapes.+shapes.Goals as goal
 
 pub add_par-returns : goal.add_par-returns
 add_par-returns t c =
