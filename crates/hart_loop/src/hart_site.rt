@@ -10,6 +10,7 @@ use crate::members::TeamMode;
 use crate::opened::{publish, shared_site, written_by};
 use array_eval::Overlay;
 use base_sched::SharedBase;
+use forkjoin_sched::PieceBatch;
 use shared_sites::{Completed, HartLocal, SchedulerRef, SharedSite, SiteCell};
 use std::alloc::{AllocError, Global};
 use std::sync::Wait;
@@ -35,6 +36,8 @@ pub struct HartSite<'a, 'p, S> {
     pub(crate) level: u8,
     // The greatest number of tasks that the hart may still get here. No run comes near its end.
     pub(crate) turns: u64,
+    // The pieces of the site's pool that this hart made and hasn't handed over.
+    pub(crate) kept: Option<PieceBatch<'p>>,
 }
 
 impl<'a, 'p, S: Drop> Drop for HartSite<'a, 'p, S> {
@@ -44,6 +47,7 @@ impl<'a, 'p, S: Drop> Drop for HartSite<'a, 'p, S> {
             opened: _,
             level: _,
             turns: _,
+            kept: _,
         } = self;
     }
 }
@@ -63,6 +67,7 @@ impl<'a, 'p, S: InDirectory<'p>> HartSite<'a, 'p, S> {
             opened,
             level,
             turns: u64::MAX,
+            kept: None,
         }
     }
 

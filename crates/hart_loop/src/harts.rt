@@ -206,19 +206,18 @@ impl<'a, 'p, S: InDirectory<'p>, R: Wait> Schedulers<R, JobMachines<'p>>
     /// Blocks if there is nothing to do and the hart stays.
     fn next(&mut self, rt: &R, site: &mut HartSite<'a, 'p, S>, is_home: bool) -> Task<Job<'p>> {
         take_turn(rt, &mut site.turns);
+        let mut kept = site.kept.take();
         let scheduler_ref = site.scheduler_ref(&self.hart_local);
-        task_of(self.hart_local.next(rt, scheduler_ref, is_home))
+        let next = self.hart_local.next(rt, scheduler_ref, &mut kept, is_home);
+        site.kept = kept;
+        task_of(next)
     }
 
-    fn deposit(
-        &mut self,
-        rt: &R,
-        _alloc: Global,
-        site: &mut HartSite<'a, 'p, S>,
-        piece: Piece<'p>,
-    ) {
+    fn deposit(&mut self, rt: &R, alloc: Global, site: &mut HartSite<'a, 'p, S>, piece: Piece<'p>) {
+        let mut kept = site.kept.take();
         let scheduler_ref = site.scheduler_ref(&self.hart_local);
-        self.hart_local.deposit(rt, scheduler_ref, piece);
+        self.hart_local.deposit(rt, alloc, scheduler_ref, &mut kept, piece);
+        site.kept = kept;
     }
 
     fn fail(&mut self, rt: &R, site: &mut HartSite<'a, 'p, S>, phase: u8, place: u8) {
