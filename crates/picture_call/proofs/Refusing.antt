@@ -18,8 +18,8 @@ use Rattle.run_audit.specs.Audit.{audit_of}
 use Rattle.journal_picture.specs.declared.shape.Kind.{Kind}
 use Rattle.picture_call.specs.Picture.{Pictured, picture_of}
 use Rattle.picture_call.specs.declared.picture.Form.{Form}
-use Rattle.lithe_call.specs.Faults.{IsNoRun, PrintsUntallied, PrintsUnpiped}
-use Rattle.lithe_call.specs.Lines.{PrintsRefusal, PrintsText}
+use Rattle.lithe_call.specs.Faults.{SpellNothing, PrintsUntallied, PrintsUnpiped}
+use Rattle.lithe_call.specs.Lines.{PrintsRefusal, PrintsText, ReportsSyntax}
 use Rattle.lithe_call.specs.Programs.{table_plan}
 use Rattle.lithe_call.specs.declared.fault.Fault.{Fault}
 use Rattle.lithe_call.specs.declared.fault.Fault.TheVariants as fault
@@ -28,18 +28,17 @@ use Rattle.lithe_call.proofs.Tallying.{untallied_line}
 use Rattle.lithe_call.proofs.Piping.{unpiped_line}
 use Rattle.picture_call.specs.declared.runner.Runner.{Runner}
 use Rattle.picture_call.specs.declared.runner.Runner.TheVariants.{Run, Tally, Pipe}
-use Rattle.picture_call.specs.Causes.{AreRefused, HaveNoPicture, ReportsNoOutput, ReportsNoPicture}
+use Rattle.picture_call.specs.Causes.{HaveNoPicture, ReportsNoOutput, ReportsNoPicture}
 use Rattle.picture_call.specs.Pictures.{AreDrawn, IsRunBy, teams_of}
 
 -- A text that spells no program has no picture.
-pub no_run_no_picture : (runner : Runner) (harts : ℕ) (first second : List ℕ) (why : Fault) → IsNoRun (λ bytes line. AreRefused runner harts line bytes second) first why
-    → HaveNoPicture runner harts first second why
-no_run_no_picture runner harts first second fault.Usage h = h
-no_run_no_picture runner harts first second fault.TooLong h = h
-no_run_no_picture runner harts first second fault.ReadFault h = h
-no_run_no_picture runner harts first second (fault.Syntax line) h = inl h
-no_run_no_picture runner harts first second (fault.Refused line) h = h
-no_run_no_picture runner harts first second fault.Memory h = tt
+pub syntax_no_picture : (runner : Runner) (harts : ℕ) (first second : List ℕ) (why : Fault) → ReportsSyntax (SpellNothing first) why → HaveNoPicture runner harts first second why
+syntax_no_picture runner harts first second fault.Usage reported = reported
+syntax_no_picture runner harts first second fault.TooLong reported = reported
+syntax_no_picture runner harts first second fault.ReadFault reported = reported
+syntax_no_picture runner harts first second (fault.Syntax line) reported = inl reported
+syntax_no_picture runner harts first second (fault.Refused line) reported = absurd reported
+syntax_no_picture runner harts first second fault.Memory reported = tt
 
 -- What is so of the program is so of the bytes that spell it.
 pub program_no_picture : (runner : Runner) (harts : ℕ) (first second : List ℕ) (program : ProgramTree) (why : Fault) → length first ≤ 65536 → Spells first program

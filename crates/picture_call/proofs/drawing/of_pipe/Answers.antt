@@ -7,7 +7,9 @@ use Rattle.transfer_table.specs.Plan.{Plan}
 use Rattle.phase_order.specs.Crossings.{HasNoCrossings}
 use Rattle.pipe_walk.specs.FirstCrossing.{IsFaultOf}
 use Rattle.picture_call.specs.Seen.{picture_seen}
-use Rattle.lithe_call.proofs.Piping.{check_printed, crossing_printed}
+use Rattle.disjoint_check.specs.FaultOf.{check_fault_of}
+use Rattle.lithe_call.proofs.Causes.{refusal_printed}
+use Rattle.lithe_call.proofs.Piping.{check_refused, crossing_printed}
 use Rattle.picture_call.specs.declared.runner.Runner.TheVariants as runner
 use Rattle.picture_call.specs.Pictures.{teams_of}
 use Rattle.picture_call.proofs.Refusing.{pipe_no_picture, plan_no_picture, plan_picture, plan_runs, right_plan}
@@ -17,7 +19,8 @@ pub returns-in-Err-clause-fault : goal.returns-in-Err-clause-fault
 returns-in-Err-clause-fault c =
     let program = program_of c.args.program.now in
     pipe_no_picture c.args.harts program c.args.output.now c.refusal.result
-    (check_printed c.args.harts program c.in-Err.fault c.refusal.result c.refusal.ensures c.in-Err.ensures.fault)
+    (check_refused c.args.harts program c.refusal.result
+    (refusal_printed (check_fault_of program c.args.harts) program c.in-Err.fault c.refusal.result c.refusal.ensures c.in-Err.ensures.fault))
 
 pub returns-in-Err-pipe_check-clause-fault : goal.returns-in-Err-pipe_check-clause-fault
 returns-in-Err-pipe_check-clause-fault c =

@@ -6,7 +6,9 @@ use Rattle.array_meaning.specs.Plans.{plan_of}
 use Rattle.disjoint_check.specs.Meaning.{IsAcceptedFor}
 use Rattle.transfer_table.specs.Plan.{Plan}
 use Rattle.picture_call.specs.Seen.{picture_seen}
-use Rattle.lithe_call.proofs.Tallying.{rows_printed}
+use Rattle.disjoint_check.specs.FaultOf.{check_fault_of}
+use Rattle.lithe_call.proofs.Causes.{refusal_printed}
+use Rattle.lithe_call.proofs.Tallying.{rows_refused}
 use Rattle.picture_call.specs.declared.runner.Runner.TheVariants as runner
 use Rattle.picture_call.specs.Pictures.{teams_of}
 use Rattle.picture_call.proofs.Refusing.{tally_no_picture, plan_no_picture, plan_picture, plan_runs, right_plan}
@@ -15,9 +17,10 @@ use Rattle.picture_call.proofs.drawing.of_tally.Goals as goal
 pub returns-in-Err-clause-fault : goal.returns-in-Err-clause-fault
 returns-in-Err-clause-fault c =
     let program = program_of c.args.program.now in
+    let rows = program_of c.in_ok-rows.rows in
     tally_no_picture c.args.harts program c.args.output.now c.refusal.result
-    (rows_printed c.args.harts program (program_of c.in_ok-rows.rows) c.in-Err.fault c.refusal.result
-    c.in_ok-rows.ensures.meaning c.in_ok-rows.ensures.shaped c.in_ok-rows.ensures.spread c.refusal.ensures c.in-Err.ensures.fault)
+    (rows_refused c.args.harts program rows c.refusal.result c.in_ok-rows.ensures.meaning c.in_ok-rows.ensures.shaped c.in_ok-rows.ensures.spread
+    (refusal_printed (check_fault_of rows c.args.harts) rows c.in-Err.fault c.refusal.result c.refusal.ensures c.in-Err.ensures.fault))
 
 pub by_plan-requires-clause-sized : goal.by_plan-requires-clause-sized
 by_plan-requires-clause-sized c = sized_in_range (program_of c.args.program.now) c.in_ok-rows.ensures.meaning.limits.ranges

@@ -1,15 +1,14 @@
 use Rattle.array_tree.specs.Trees.{program_of}
 use Rattle.picture_call.specs.Seen.{picture_seen}
 use Rattle.lithe_call.proofs.Causes.{syntax_line_printed}
-use Rattle.picture_call.specs.Causes.{AreRefused}
-use Rattle.picture_call.proofs.Refusing.{drawn_of, no_run_no_picture, not_drawn_of}
+use Rattle.picture_call.proofs.Refusing.{drawn_of, not_drawn_of, syntax_no_picture}
 use Rattle.picture_call.proofs.drawing.picture.Goals as goal
 
 pub returns-in-Err-clause-fault : goal.returns-in-Err-clause-fault
 returns-in-Err-clause-fault c =
     let wanted = c.args.wanted in
-    no_run_no_picture wanted.runner wanted.harts c.args.first.now c.args.second.now c.syntax_fault.result
-    (syntax_line_printed (λ bytes line. AreRefused wanted.runner wanted.harts line bytes c.args.second.now) c.args.first.now c.in-Err.fault c.syntax_fault.result c.requires.short
+    syntax_no_picture wanted.runner wanted.harts c.args.first.now c.args.second.now c.syntax_fault.result
+    (syntax_line_printed c.args.first.now c.in-Err.fault c.syntax_fault.result c.requires.short
     c.syntax_fault.ensures c.in-Err.ensures.only c.in-Err.ensures.fault)
 
 pub returns-clause-drawn : goal.returns-clause-drawn
