@@ -5,8 +5,9 @@ use Rattle.sched_api.specs.declared.scheduler.Next.TheVariants.{Run, Lend, Nothi
 use Rattle.forkjoin_sched.specs.declared.work.PoolWork.{PoolWork}
 use Rattle.forkjoin_sched.specs.declared.work.PoolWork.TheVariants.{Begin, Ready}
 use Rattle.forkjoin_sched.specs.declared.looks.Found.{Found}
-use Rattle.forkjoin_sched.specs.declared.looks.Found.TheVariants.{HandedOut, NoneLeft, Work}
+use Rattle.forkjoin_sched.specs.declared.looks.Found.TheVariants.{HandedOut, NoneLeft, Work, Put}
 use Rattle.forkjoin_sched.specs.declared.hand.PoolHand.{PoolHand}
+use Rattle.forkjoin_sched.specs.Batches.{BatchParts, emptied}
 use Rattle.forkjoin_sched.specs.Hands.{Sees, Keeps, IsFoundBare, HasTaken, PushesCodes, IsFalling, code_of}
 
 -- The hand is the same: on the same pool and deque, with the same access to the deques.
@@ -37,6 +38,12 @@ abbrev pub LooksBy : {R : Type 0} → PoolHand R → Next PoolWork → PoolHand 
 LooksBy before (Run work) after = HasSeen before Work after
 LooksBy before (Lend site) after = HasSeen before Work after
 LooksBy before Nothing after = HasSeen before HandedOut after ⊎ HasSeen before NoneLeft after
+
+-- A look under the lock put all pieces of the batch into the pool, or found the pool handed out. The batch has none left.
+abbrev pub HandsOverBy : {R : Type 0} → PoolHand R → BatchParts → PoolHand R → BatchParts → Type 0
+HandsOverBy before batch after batch' =
+    (batch' ≡ emptied batch)
+    × (HasSeen before HandedOut after ⊎ HasSeen before (Put (length batch.pieces)) after)
 
 -- The cause of a result of `enter`: a job of the hand's site whose job index this call took, or the result of a look of this
 -- call under the lock. The result is `Nothing` only if this call found the deque bare, and a look of this call found the pool

@@ -1,6 +1,7 @@
 -- The calls of a hart's hand on a shared pool. A look is one read of the pool under its lock.
 use Rattle.std.specs.Prelude.{◌≡◌, ◌⊎◌, ℕ, ◌+◌, ◌-◌, ◌*◌, ◌<◌, ◌≤◌, List, [], ◌∷◌, ◌++◌, length, map, slice_set, slice_index, Option, Some, None}
 use Rattle.array_jobs.specs.Jobs.{JobParts}
+use Rattle.array_jobs.specs.PieceParts.{PieceParts}
 use Rattle.sched_api.specs.declared.scheduler.Next.{Next}
 use Rattle.sched_api.specs.declared.scheduler.Next.TheVariants.{Run, Lend, Nothing}
 use Rattle.deque_rows.specs.declared.account.Log.{Log}
@@ -8,11 +9,12 @@ use Rattle.deque_rows.specs.declared.hart.HartRows.{HartRows}
 use Rattle.deque_rows.specs.Account.{HeldAtMost, Rose, after_push}
 use Rattle.deque_rows.specs.Rows.{identity, home_logs, pass_logs, bares, home_log, pass_log, bare}
 use Rattle.sched_api.specs.Agenda.{GivesReady}
-use Rattle.forkjoin_sched.specs.Pools.{PoolParts, Answers, with_agenda}
+use Rattle.forkjoin_sched.specs.Pools.{PoolParts, Answers, with_agenda, with_book}
+use Rattle.forkjoin_sched.specs.Batches.{PutsAll}
 use Rattle.forkjoin_sched.specs.declared.work.PoolWork.{PoolWork}
 use Rattle.forkjoin_sched.specs.declared.work.PoolWork.TheVariants.{Begin, Ready}
 use Rattle.forkjoin_sched.specs.declared.looks.Found.{Found}
-use Rattle.forkjoin_sched.specs.declared.looks.Found.TheVariants.{HandedOut, NoneLeft, Work}
+use Rattle.forkjoin_sched.specs.declared.looks.Found.TheVariants.{HandedOut, NoneLeft, Work, Put}
 use Rattle.forkjoin_sched.specs.declared.looks.Looks.{Looks}
 
 -- The job index of a site's piece, which deques hold.
@@ -36,6 +38,11 @@ found_by (Some pool) Nothing = NoneLeft
 found_by (Some pool) (Run work) = Work
 found_by (Some pool) (Lend site) = Work
 
+-- The result of a look that puts so many pieces into the pool.
+abbrev pub put_by : Option PoolParts → ℕ → Found
+put_by None count = HandedOut
+put_by (Some pool) count = Put count
+
 -- The pool returns what its `enter` does, and a pool that was handed out returns `Nothing`.
 abbrev pub AnswersUnder : Option PoolParts → Next PoolWork → Option PoolParts → Type 0
 AnswersUnder None next after = (next ≡ Nothing) × (after ≡ None)
@@ -48,6 +55,13 @@ GivesReadyUnder None ready after = (ready ≡ None) × (after ≡ None)
 GivesReadyUnder (Some pool) ready None = ⊥
 GivesReadyUnder (Some pool) ready (Some after) =
     GivesReady pool.agenda ready after.agenda × (after ≡ with_agenda pool after.agenda)
+
+-- All these pieces are put into the pool's book, and nothing else changes. A pool that was handed out gets none of them.
+abbrev pub HandsOverUnder : List PieceParts → Option PoolParts → Option PoolParts → Type 0
+HandsOverUnder pieces None after = after ≡ None
+HandsOverUnder pieces (Some pool) None = ⊥
+HandsOverUnder pieces (Some pool) (Some after) =
+    PutsAll pieces pool.book after.book × (after ≡ with_book pool after.book)
 
 -- The deques --
 

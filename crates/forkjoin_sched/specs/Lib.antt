@@ -3,3 +3,5 @@ pub mod Laws
 pub mod Shared
 pub mod Hands
 pub mod HandCalls
+pub mod Batches
+pub mod Rests

@@ -1,5 +1,6 @@
 -- The scheduler of one `par`.
-use Rattle.std.specs.Prelude.{◌≡◌, ℕ, List, [], ◌∷◌, ◌++◌, length, map, Option, Some, None, Result}
+use Rattle.std.specs.Prelude.{◌≡◌, ℕ, List, [], ◌∷◌, ◌++◌, length, map, slice_get, Option, Some, None, Result}
+use Rattle.array_meaning.specs.Stores.{Store}
 use Rattle.sched_api.specs.Wishes.{wishes_after}
 use Rattle.sched_api.specs.declared.hearing.Told.{Told}
 use Rattle.sched_api.specs.declared.agenda.TheConstants.{MOST_WISHES}
@@ -21,6 +22,19 @@ pub record PoolParts : Type 0 where
 abbrev pub site_of_jobs : List JobParts → ℕ
 site_of_jobs [] = 0
 site_of_jobs (job ∷ jobs) = job.site
+
+-- All jobs start from the store.
+abbrev pub StartFrom : Store → List JobParts → Type 0
+StartFrom start jobs = (i : ℕ) (job : JobParts) → slice_get jobs i ≡ Some job → job.store ≡ start
+
+-- All jobs start from one store. Why any two are compared, and not each with some store: so it can be a type's invariant.
+abbrev pub HaveOneStart : List JobParts → Type 0
+HaveOneStart jobs = (i k : ℕ) (a b : JobParts) → slice_get jobs i ≡ Some a → slice_get jobs k ≡ Some b
+    → a.store ≡ b.store
+
+-- The jobs of both lists start from one store.
+abbrev pub HaveSameStart : List JobParts → List JobParts → Type 0
+HaveSameStart xs ys = (start : Store) × StartFrom start xs × StartFrom start ys
 
 -- The pool of jobs none of which is begun, in the order of their indices, with room for so many wishes.
 abbrev pub roomy_pool : List JobParts → ℕ → PoolParts

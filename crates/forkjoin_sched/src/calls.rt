@@ -3,8 +3,9 @@ ghost use Rattle.std.specs.Prelude.{◌≡◌, ◌≤◌, ◌+◌, length, IfSom
 ghost use Rattle.deque_rows.specs.Rows.{home_log, row_room};
 ghost use Rattle.join_book.specs.Books.{IsFull};
 ghost use Rattle.forkjoin_sched.specs.Shared.{Receives};
-ghost use Rattle.forkjoin_sched.specs.HandCalls.{AnswersHand, IsStill, Offers, TakesReadyBy, LooksBy};
+ghost use Rattle.forkjoin_sched.specs.HandCalls.{AnswersHand, IsStill, Offers, TakesReadyBy, LooksBy, HandsOverBy};
 
+use crate::batch::PieceBatch;
 use crate::hand::PoolHand;
 use crate::pieces::take_piece;
 use crate::pool::{Pool, PoolHeard, heard};
@@ -51,6 +52,19 @@ impl<'a, 'r, 'p, R: Wait + 'a> PoolHand<'a, 'r, 'p, R> {
                 deposit
             }
             None => Deposit::Stranger(piece),
+        }
+    }
+
+    /// Puts all pieces of a batch into the pool under one lock, the last first, each as `put` of the pool does. May block.
+    ///
+    /// If the pool was handed out, it drops them.
+    pub fn hand_over(&mut self, rt: &R, batch: &mut PieceBatch<'p>)
+        ensures { HandsOverBy self.old batch.old self.new batch.new }
+    {
+        let mut kept = self.shared.kept().lock(rt);
+        self.looks.hand_over(&mut kept, batch);
+        if let Some(pool) = kept.as_ref() {
+            self.shared.show_full(pool);
         }
     }
 

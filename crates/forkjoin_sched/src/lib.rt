@@ -7,6 +7,7 @@
 //! threads.
 #![tactic(auto)]
 
+mod batch;
 mod calls;
 mod hand;
 pub mod laws;
@@ -14,9 +15,11 @@ mod looks;
 mod offering;
 mod pieces;
 mod pool;
+mod same_jobs;
 mod shared;
 mod work;
 
+pub use batch::{NotAdded, PieceBatch};
 pub use hand::PoolHand;
 pub use looks::{Found, Looks};
 pub use pool::{Pool, PoolHeard};

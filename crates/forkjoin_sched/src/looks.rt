@@ -2,8 +2,10 @@
 ghost use Rattle.std.specs.Prelude.{◌≡◌, ◌+◌, ◌≤◌, ℕ, List, length, MatchOption};
 ghost use Rattle.deque_rows.specs.Rows.{IsLevel, home_log, row_room};
 ghost use Rattle.forkjoin_sched.specs.declared.looks.Found.TheVariants.{HandedOut, Work};
-ghost use Rattle.forkjoin_sched.specs.Hands.{Sees, found_by, AnswersUnder, GivesReadyUnder, OffersUnder};
+ghost use Rattle.forkjoin_sched.specs.Batches.{emptied};
+ghost use Rattle.forkjoin_sched.specs.Hands.{Sees, found_by, put_by, AnswersUnder, GivesReadyUnder, OffersUnder, HandsOverUnder};
 
+use crate::batch::PieceBatch;
 use crate::offering::offer_jobs;
 use crate::pool::Pool;
 use crate::work::PoolWork;
@@ -21,6 +23,8 @@ pub enum Found {
     NoneLeft,
     /// The pool had work for the hart, or accepted the hart's action.
     Work,
+    /// So many pieces of a batch were put into the pool.
+    Put(usize),
 }
 
 /// The number of looks of a hand under the lock of its pool, and the result of the last one. Only a look changes it.
@@ -100,5 +104,22 @@ impl Looks {
         };
         offer_jobs(rt, pool, slots, rows, site, level);
         self.note(Found::Work);
+    }
+
+    /// Puts all pieces of a batch into the pool, the last first, each as `put` of the pool does. If the pool was handed out, it
+    /// drops them.
+    pub(crate) fn hand_over<'p>(&mut self, kept: &mut Option<Pool<'p>>, batch: &mut PieceBatch<'p>)
+        ensures sees { Sees self.old (put_by kept.old (length batch.old.pieces)) self.new }
+        ensures batch { batch.new ≡ emptied batch.old }
+        ensures puts { HandsOverUnder batch.old.pieces kept.old kept.new }
+    {
+        let Some(pool) = kept else {
+            batch.clear();
+            self.note(Found::HandedOut);
+            return;
+        };
+        let count = batch.len();
+        batch.put_into(pool);
+        self.note(Found::Put(count));
     }
 }

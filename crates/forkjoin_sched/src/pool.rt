@@ -1,5 +1,5 @@
 //! Pools.
-ghost use Rattle.std.specs.Prelude.{◌≡◌, ◌↔◌, ◌<◌, IsTrue, IfOk, IsErr, map, length};
+ghost use Rattle.std.specs.Prelude.{◌≡◌, ◌↔◌, ◌<◌, IsTrue, IfOk, IfSome, IsErr, map, length};
 ghost use Rattle.sched_api.specs.declared.hearing.Told.{Told};
 ghost use Rattle.sched_api.specs.Wishes.{with_wishes};
 ghost use Rattle.array_jobs.specs.Jobs.{job_of};
@@ -7,10 +7,10 @@ ghost use Rattle.array_jobs.specs.Groups.{IsGroup};
 ghost use Rattle.sched_api.specs.Agenda.{GivesReady};
 ghost use Rattle.join_book.specs.Books.{Open, Filled, Failed, IsMarked, IsPlaceOf, IsFull, HasFailed, Deposits, Puts, marked_book, all_writes};
 ghost use Rattle.forkjoin_sched.specs.declared.work.PoolWork.TheVariants.{Begin};
-ghost use Rattle.forkjoin_sched.specs.Pools.{new_pool, roomy_pool, Answers, Hears, Takes, with_book, with_agenda, GivesJob};
+ghost use Rattle.forkjoin_sched.specs.Pools.{StartFrom, HaveOneStart, new_pool, roomy_pool, Answers, Hears, Takes, with_book, with_agenda, GivesJob};
 
 use crate::work::PoolWork;
-use array_eval::Overlay;
+use array_eval::{Overlay, Store};
 use array_jobs::{Job, Piece};
 use join_book::{Book, Deposit};
 use lithe_mutex::{Acquired, MutexState};
@@ -57,17 +57,19 @@ pub struct Pool<'p> {
     site: u16,
     agenda: Agenda<PoolWork<'p>>,
     book: MutexState<Book<'p>, ()>,
+    // Whether all jobs of the book are known to start from one store.
+    alike: bool,
 }
 
 impl<'p> Model for Pool<'p> {
-    ghost use Rattle.std.specs.Prelude.{◌≡◌};
+    ghost use Rattle.std.specs.Prelude.{◌≡◌, IsTrue};
     ghost use Rattle.std.specs.Coded.{codes};
     ghost use Rattle.array_tree.specs.contracts.tree.Arrays as arrays_type;
     ghost use Rattle.array_tree.specs.contracts.tree.Block as block_type;
     ghost use Rattle.step_eval.specs.contracts.stage.Stage as stage_type;
     ghost use Rattle.step_eval.specs.Inside.Codes.{coded_sequence};
     ghost use Rattle.lithe_mutex.specs.Mutex.{Free};
-    ghost use Rattle.forkjoin_sched.specs.Pools.{PoolParts, free_book};
+    ghost use Rattle.forkjoin_sched.specs.Pools.{PoolParts, HaveOneStart, free_book};
 
     ghost Value = { PoolParts };
 
@@ -75,7 +77,8 @@ impl<'p> Model for Pool<'p> {
 
     ghost view = { λ pool. record { site = pool.site; agenda = pool.agenda; book = free_book pool.book.possession } };
 
-    ghost invariant = { λ pool. pool.book.possession ≡ Free (free_book pool.book.possession) };
+    ghost invariant = { λ pool. (pool.book.possession ≡ Free (free_book pool.book.possession))
+        × (IsTrue pool.alike → HaveOneStart (free_book pool.book.possession).jobs) };
 }
 
 impl<'p> Pool<'p> {
@@ -113,12 +116,49 @@ impl<'p> Pool<'p> {
         requires { IsGroup (map job_of jobs.items) }
         ensures { IfOk result (λ pool. pool ≡ roomy_pool jobs.entry.items wishes) }
     {
-        let site = jobs[0].site;
-        let count = jobs.len();
-        let unbegun = unbegun_work(alloc, &jobs)?;
-        let agenda = Agenda::new(alloc, count, wishes, unbegun)?;
-        let book = MutexState::new(alloc, 0, Book::new(alloc, jobs)?)?;
-        Ok(Pool { site, agenda, book })
+        pool_of(alloc, jobs, wishes, false)
+    }
+
+    /// The pool that `with_wishes` makes, of jobs that all start from one store.
+    ///
+    /// # Errors
+    ///
+    /// `AllocError` if an allocation fails.
+    ///
+    /// # Memory
+    ///
+    /// It allocates as `new` does.
+    pub fn of_one_start(
+        alloc: Global,
+        jobs: Vec<Job<'p>>,
+        wishes: usize,
+    ) -> Result<Pool<'p>, AllocError>
+        requires group { IsGroup (map job_of jobs.items) }
+        requires start { HaveOneStart jobs.items }
+        ensures { IfOk result (λ pool. pool ≡ roomy_pool jobs.entry.items wishes) }
+    {
+        pool_of(alloc, jobs, wishes, true)
+    }
+
+    // Whether all jobs are known to start from one store.
+    pub(crate) fn has_one_start(&self) -> bool
+        ensures { IsTrue result → HaveOneStart self.now.book.jobs }
+    {
+        self.alike
+    }
+
+    /// The store from which all jobs start, if they are known to start from one: if `of_one_start` made the pool, and `put` hasn't
+    /// put a piece in.
+    pub fn start(&self) -> Option<&Store>
+        ensures { IfSome result (λ start. StartFrom start.now self.now.book.jobs) }
+    {
+        if !self.has_one_start() {
+            return None;
+        }
+        match self.jobs().first() {
+            Some(job) => Some(&job.store),
+            None => None,
+        }
     }
 
     /// The number of ready contexts.
@@ -172,6 +212,16 @@ impl<'p> Pool<'p> {
         ensures book { Puts self.old.book piece.entry result self.new.book }
         ensures rest { self.new ≡ with_book self.old self.new.book }
     {
+        self.put_in(piece, false)
+    }
+
+    /// What `put` does. `known`: all jobs of the pool start from the store of the piece's job, so they still do.
+    pub(crate) fn put_in(&mut self, piece: Piece<'p>, known: bool) -> Deposit<'p>
+        requires { IsTrue known → StartFrom piece.job.store self.old.book.jobs }
+        ensures book { Puts self.old.book piece.entry result self.new.book }
+        ensures rest { self.new ≡ with_book self.old self.new.book }
+    {
+        self.alike = known;
         match self.book.acquire(()) {
             Acquired::Got(mut book, ()) => {
                 let deposit = book.put(piece);
@@ -273,6 +323,30 @@ impl<'p> Pool<'p> {
             Acquired::Kept => unreachable!(),
         }
     }
+}
+
+// The pool of these jobs, with room for so many wishes. `alike`: all jobs start from one store.
+fn pool_of<'p>(
+    alloc: Global,
+    jobs: Vec<Job<'p>>,
+    wishes: usize,
+    alike: bool,
+) -> Result<Pool<'p>, AllocError>
+    requires group { IsGroup (map job_of jobs.items) }
+    requires alike { IsTrue alike → HaveOneStart jobs.items }
+    ensures { IfOk result (λ pool. pool ≡ roomy_pool jobs.entry.items wishes) }
+{
+    let site = jobs[0].site;
+    let count = jobs.len();
+    let unbegun = unbegun_work(alloc, &jobs)?;
+    let agenda = Agenda::new(alloc, count, wishes, unbegun)?;
+    let book = MutexState::new(alloc, 0, Book::new(alloc, jobs)?)?;
+    Ok(Pool {
+        site,
+        agenda,
+        book,
+        alike,
+    })
 }
 
 // Each job as work that isn't begun. Why a copy: the book keeps the jobs, to recognise pieces that aren't its own.

@@ -1,8 +1,12 @@
 //! Pools that harts share.
-ghost use Rattle.std.specs.Prelude.{◌≡◌, ◌↔◌, length, IfOk, IsTrue, vec_len};
+ghost use Rattle.std.specs.Prelude.{◌≡◌, ◌↔◌, length, map, IfOk, IfSome, IsTrue, vec_len};
+ghost use Rattle.array_jobs.specs.Jobs.{job_of};
+ghost use Rattle.forkjoin_sched.specs.Pools.{StartFrom, HaveOneStart, HaveSameStart};
 ghost use Rattle.forkjoin_sched.specs.Shared.{HasJob};
 
 use crate::pool::Pool;
+use crate::same_jobs::{have_same_jobs, have_same_work};
+use array_eval::Store;
 use array_jobs::{Job, copy_jobs};
 use sched_api::Scheduler;
 use std::alloc::{AllocError, Global};
@@ -21,13 +25,16 @@ pub struct SharedPool<'p> {
     full: AtomicBool,
     slots: Vec<Mutex<Option<Job<'p>>>>,
     jobs: Vec<Job<'p>>,
+    // Whether all these jobs are known to start from one store.
+    alike: bool,
 }
 
 impl<'p> Model for SharedPool<'p> {
-    ghost use Rattle.std.specs.Prelude.{◌≡◌, vec_len};
+    ghost use Rattle.std.specs.Prelude.{◌≡◌, IsTrue, vec_len};
     ghost use Rattle.std.specs.Coded.{codes};
     ghost use Rattle.array_tree.specs.contracts.tree.Arrays as arrays_type;
     ghost use Rattle.array_tree.specs.contracts.tree.Block as block_type;
+    ghost use Rattle.forkjoin_sched.specs.Pools.{HaveOneStart};
     ghost use Rattle.forkjoin_sched.specs.Shared.{SharedParts};
 
     ghost Value = { SharedParts };
@@ -36,7 +43,8 @@ impl<'p> Model for SharedPool<'p> {
 
     ghost view = { λ shared. record { site = shared.site; jobs = shared.jobs.items } };
 
-    ghost invariant = { λ shared. vec_len shared.slots ≡ vec_len shared.jobs };
+    ghost invariant = { λ shared. (vec_len shared.slots ≡ vec_len shared.jobs)
+        × (IsTrue shared.alike → HaveOneStart shared.jobs.items) };
 }
 
 impl<'p> SharedPool<'p> {
@@ -60,6 +68,7 @@ impl<'p> SharedPool<'p> {
         let slots = empty_slots(alloc, jobs.len())?;
         let ready = pool.ready_count() as u64;
         let full = pool.is_full();
+        let alike = pool.has_one_start();
         Ok(SharedPool {
             site,
             lock: Mutex::new(Some(pool)),
@@ -67,6 +76,7 @@ impl<'p> SharedPool<'p> {
             full: AtomicBool::new(full),
             slots,
             jobs,
+            alike,
         })
     }
 
@@ -75,6 +85,51 @@ impl<'p> SharedPool<'p> {
         ensures { result.now ≡ self.now.jobs }
     {
         &self.jobs
+    }
+
+    /// The store from which all its jobs start, if they are known to start from one.
+    pub fn start(&self) -> Option<&Store>
+        ensures { IfSome result (λ start. StartFrom start.now self.now.jobs) }
+    {
+        if !self.has_one_start() {
+            return None;
+        }
+        match self.jobs().first() {
+            Some(job) => Some(&job.store),
+            None => None,
+        }
+    }
+
+    // Whether all jobs are known to start from one store.
+    fn has_one_start(&self) -> bool
+        ensures { IsTrue result → HaveOneStart self.now.jobs }
+    {
+        self.alike
+    }
+
+    /// Whether the pool has exactly these jobs. If the jobs of each are known to start from one store, only those two stores are
+    /// compared, and of each job the rest.
+    pub fn has_jobs_of(&self, pool: &Pool<'p>) -> bool
+        ensures { IsTrue result ↔ (map job_of pool.now.book.jobs ≡ map job_of self.now.jobs) }
+    {
+        if self.starts_as(pool) {
+            have_same_work(pool.jobs(), self.jobs())
+        } else {
+            have_same_jobs(pool.jobs(), self.jobs())
+        }
+    }
+
+    // Whether all jobs of the pool are known to start from the store from which all of these do.
+    fn starts_as(&self, pool: &Pool<'p>) -> bool
+        ensures { IsTrue result → HaveSameStart pool.now.book.jobs self.now.jobs }
+    {
+        let Some(own) = self.start() else {
+            return false;
+        };
+        let Some(start) = pool.start() else {
+            return false;
+        };
+        *own == *start
     }
 
     // Whether the job is the job of the index that it names.

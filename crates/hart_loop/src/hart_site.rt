@@ -10,6 +10,7 @@ use crate::members::TeamMode;
 use crate::opened::{publish, shared_site, written_by};
 use array_eval::Overlay;
 use base_sched::SharedBase;
+use forkjoin_sched::PieceBatch;
 use shared_sites::{Completed, HartLocal, SchedulerRef, SharedSite, SiteCell};
 use std::alloc::{AllocError, Global};
 use std::sync::Wait;
@@ -35,6 +36,8 @@ pub struct HartSite<'a, 'p, S> {
     pub(crate) level: u8,
     // The greatest number of tasks that the hart may still get here. No run comes near its end.
     pub(crate) turns: u64,
+    // The pieces of the site's pool that this hart made and hasn't handed over.
+    pub(crate) batch: Option<PieceBatch<'p>>,
 }
 
 impl<'a, 'p, S: Drop> Drop for HartSite<'a, 'p, S> {
@@ -44,6 +47,7 @@ impl<'a, 'p, S: Drop> Drop for HartSite<'a, 'p, S> {
             opened: _,
             level: _,
             turns: _,
+            batch: _,
         } = self;
     }
 }
@@ -63,6 +67,7 @@ impl<'a, 'p, S: InDirectory<'p>> HartSite<'a, 'p, S> {
             opened,
             level,
             turns: u64::MAX,
+            batch: None,
         }
     }
 
@@ -124,11 +129,7 @@ impl<'a, 'p, S: InDirectory<'p>> HartSite<'a, 'p, S> {
         't: 'x,
         ensures { Fits hart_local.now result }
     {
-        match &self.placement {
-            Placement::Base(base) => SchedulerRef::Base(base),
-            Placement::Published(shared) => hart_local.scheduler_ref(shared.shared(), self.level),
-            Placement::Kept(shared) => hart_local.scheduler_ref(shared.shared(), self.level),
-        }
+        ref_in(&self.placement, self.level, hart_local)
     }
 
     /// The number of harts, besides its home, for which the site has work: 0 if no other hart finds it, or has a hand on it.
@@ -189,5 +190,22 @@ impl<'a, 'p, S: InDirectory<'p>> HartSite<'a, 'p, S> {
         } else {
             Ok(completed)
         }
+    }
+}
+
+/// The reference to the scheduler of a site of this level.
+pub(crate) fn ref_in<'x, 'a, 'p, 't, S: InDirectory<'p>>(
+    placement: &'x Placement<'a, S>,
+    level: u8,
+    hart_local: &HartLocal<'t>,
+) -> SchedulerRef<'x, 'p>
+where
+    't: 'x,
+    ensures { Fits hart_local.now result }
+{
+    match placement {
+        Placement::Base(base) => SchedulerRef::Base(base),
+        Placement::Published(shared) => hart_local.scheduler_ref(shared.shared(), level),
+        Placement::Kept(shared) => hart_local.scheduler_ref(shared.shared(), level),
     }
 }

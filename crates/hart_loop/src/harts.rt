@@ -4,7 +4,7 @@ ghost use Rattle.hart_loop.specs.NoAccounts.{no_account};
 ghost use Rattle.hart_loop.specs.Offers.{task_reported};
 ghost use Rattle.hart_loop.specs.Openings.{IsOpened};
 
-use crate::hart_site::HartSite;
+use crate::hart_site::{HartSite, ref_in};
 use crate::in_directory::InDirectory;
 use crate::members::TeamMode;
 use crate::turns::take_turn;
@@ -206,19 +206,16 @@ impl<'a, 'p, S: InDirectory<'p>, R: Wait> Schedulers<R, JobMachines<'p>>
     /// Blocks if there is nothing to do and the hart stays.
     fn next(&mut self, rt: &R, site: &mut HartSite<'a, 'p, S>, is_home: bool) -> Task<Job<'p>> {
         take_turn(rt, &mut site.turns);
-        let scheduler_ref = site.scheduler_ref(&self.hart_local);
-        task_of(self.hart_local.next(rt, scheduler_ref, is_home))
+        let scheduler_ref = ref_in(&site.placement, site.level, &self.hart_local);
+        let batch = &mut site.batch;
+        task_of(self.hart_local.next(rt, scheduler_ref, batch, is_home))
     }
 
-    fn deposit(
-        &mut self,
-        rt: &R,
-        _alloc: Global,
-        site: &mut HartSite<'a, 'p, S>,
-        piece: Piece<'p>,
-    ) {
-        let scheduler_ref = site.scheduler_ref(&self.hart_local);
-        self.hart_local.deposit(rt, scheduler_ref, piece);
+    fn deposit(&mut self, rt: &R, alloc: Global, site: &mut HartSite<'a, 'p, S>, piece: Piece<'p>) {
+        let scheduler_ref = ref_in(&site.placement, site.level, &self.hart_local);
+        let batch = &mut site.batch;
+        self.hart_local
+            .deposit(rt, alloc, scheduler_ref, batch, piece);
     }
 
     fn fail(&mut self, rt: &R, site: &mut HartSite<'a, 'p, S>, phase: u8, place: u8) {

@@ -113,7 +113,7 @@ fn written_by_pool<'p>(
     requires full { IsFull pool.book }
     ensures { IfOk result (λ written. written.pairs ≡ nested_writes (nested_of nested.now)) }
 {
-    if pool.jobs() == shared.jobs() {
+    if shared.has_jobs_of(&pool) {
         take_from_pool(nested, pool)
     } else {
         compute(alloc, nested)

@@ -34,7 +34,7 @@ fn two_hart_locals<'x>(
     let mut hart_local = hart_locals_of(alloc, words, rows(alloc, 2)?, claims)?;
     match (hart_local.pop(), hart_local.pop()) {
         (Some(first), Some(second)) => Ok((first, second)),
-        _ => Err(Fail::new("too few tools")),
+        _ => Err(Fail::new("no hart-local state is left")),
     }
 }
 
@@ -132,9 +132,8 @@ fn does_one<'a, 'p, R: Wait, S: InDirectory<'p>>(
     let Some(piece) = next_piece(rt, alloc, guest, found, false) else {
         return false;
     };
-    let none = matches!(guest.next(rt, found, false), Task::Nothing);
     guest.deposit(rt, alloc, found, piece);
-    none
+    matches!(guest.next(rt, found, false), Task::Nothing)
 }
 
 // The same for a guest that finds the site by its lines.
@@ -149,7 +148,7 @@ fn helps<'a, 'p, R: Wait, S: InDirectory<'p>>(
     }
 }
 
-// Whether a home does a piece while a guest does the other.
+// Whether a home does a piece while a guest does the other, and then finds nothing.
 fn is_helped<'a, 'p, R: Wait, S: InDirectory<'p>>(
     rt: &'a R,
     alloc: Global,
@@ -166,7 +165,8 @@ fn is_helped<'a, 'p, R: Wait, S: InDirectory<'p>>(
     };
     let helped = helps(rt, alloc, guest);
     home.deposit(rt, alloc, site, piece);
-    helped
+    let is_done = matches!(home.next(rt, site, true), Task::Nothing);
+    helped && is_done
 }
 
 // The writes of the pool of a `par` of two branches, of which a guest does the second.

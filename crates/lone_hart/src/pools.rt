@@ -39,7 +39,7 @@ pub fn open_pool<'p>(alloc: Global, nested: &Nested<'p>) -> Result<Pool<'p>, All
     ensures room { IfOk result (λ pool. pool.agenda.wishes.room ≡ wishes_inside nested.now) }
 {
     let jobs = jobs_of(alloc, nested, 0, &nested.store)?;
-    Pool::with_wishes(alloc, jobs, room_for_wishes(nested))
+    Pool::of_one_start(alloc, jobs, room_for_wishes(nested))
 }
 
 /// The next action of the hart in the pool: the next job, or nothing if every job came back or one failed.

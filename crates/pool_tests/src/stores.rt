@@ -12,7 +12,7 @@ use std::test::Fail;
 use step_eval::{Found, Nested, StepMachine, jobs_of};
 
 // The same two branches, after a write of another cell: their jobs differ from the others only in one cell of the store.
-const AFTER_A_WRITE: &[u8] = b"array a[4]; a[3] = 1; par { { a[0] = 1; } { a[1] = 2; } }";
+pub const AFTER_A_WRITE: &[u8] = b"array a[4]; a[3] = 1; par { { a[0] = 1; } { a[1] = 2; } }";
 
 // The construct after that write.
 fn construct<'p>(alloc: Global, program: &'p Program) -> Result<Nested<'p>, Fail> {
@@ -25,7 +25,7 @@ fn construct<'p>(alloc: Global, program: &'p Program) -> Result<Nested<'p>, Fail
 }
 
 // The piece of its second branch.
-fn second_piece<'p>(alloc: Global, program: &'p Program) -> Result<Piece<'p>, Fail> {
+pub fn second_piece<'p>(alloc: Global, program: &'p Program) -> Result<Piece<'p>, Fail> {
     let nested = construct(alloc, program)?;
     // Why: reading its phases makes the construct's invariant known.
     let _phases = nested.phases();

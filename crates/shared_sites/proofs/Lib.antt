@@ -1,3 +1,4 @@
 pub mod ClaimRows
 pub mod HartLocals
 pub mod Crossings
+mod Keeping

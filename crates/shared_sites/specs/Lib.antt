@@ -5,3 +5,4 @@ pub mod Hands
 pub mod Told
 pub mod HartLocals
 pub mod Facts
+pub mod Keeping

@@ -1,12 +1,14 @@
 //! The hart-local state for all sites: its deques, its seat, and the counters of each site.
-ghost use Rattle.std.specs.Prelude.{◌≡◌, ◌≢◌, ◌<◌, ◌≤◌, ◌+◌, ◌↔◌, ◌⊎◌, false, None, IsTrue, IfOk, IfSome, length, map, reverse, vec_len};
+ghost use Rattle.std.specs.Prelude.{◌≡◌, ◌≢◌, ◌<◌, ◌≤◌, ◌+◌, ◌↔◌, ◌⊎◌, [], false, None, IsTrue, IfOk, IfSome, length, map, option_map, reverse, vec_len};
 ghost use Rattle.std.specs.Option.{ForSome};
 ghost use Rattle.deque_rows.specs.Rows.{IsLevel, home_log, row_room, identity as rows_identity};
 ghost use Rattle.claim_words.specs.Seats.{IsOf, identity as seat_identity};
 ghost use Rattle.shared_sites.specs.Places.{Fits, PoolFits, TeamFits, site_at};
 ghost use Rattle.shared_sites.specs.Hands.{HasTried, IsCompleted};
 ghost use Rattle.shared_sites.specs.HartLocals.{AreHartLocals};
+ghost use Rattle.shared_sites.specs.Keeping.{handed_to, HandsOver, StillKeeps};
 ghost use Rattle.shared_sites.specs.Told.{inside};
+ghost use Rattle.forkjoin_sched.specs.Batches.{emptied};
 ghost use Rattle.hart_port.specs.Count.{Rose};
 ghost use Rattle.hart_port.specs.PortView.{IsPortView, is_in, Registers, MayRequest, requested_by, yielded, MayUnregister, unregistered};
 ghost use Rattle.sched_api.specs.Calls.{RoseUnlessLent};
@@ -15,12 +17,13 @@ ghost use Rattle.transfer_table.specs.Plan.{IsSite, parent as parent_of};
 use crate::claims::Claims;
 use crate::completed::Completed;
 use crate::hand::Hand;
+use crate::kept::keep;
 use crate::scheduler_ref::{PoolPlace, SchedulerRef, TeamPlace};
 use crate::shared_site::SharedSite;
 use array_jobs::{Job, Piece};
 use crossbeam_utils::Backoff;
 use deque_rows::HartRows;
-use forkjoin_sched::SharedPool;
+use forkjoin_sched::{PieceBatch, SharedPool};
 use hart_port::{Port, Taken};
 use loop_team::{ClaimSeat, SharedTeam};
 use pipe_sched::PipeHand;
@@ -274,7 +277,10 @@ impl<'t> HartLocal<'t> {
         let backoff = Backoff::new();
         'tries: for _ in rt.forever() {
             match self.try_once(rt, scheduler_ref, port, hold) {
-                Lent::Inside(Next::Run(None)) => return Some(self.next(rt, scheduler_ref, false)),
+                Lent::Inside(Next::Run(None)) => {
+                    let mut kept = None;
+                    return Some(self.next(rt, scheduler_ref, &mut kept, false));
+                }
                 Lent::Inside(Next::Run(Some(job))) => return Some(Next::Run(job)),
                 Lent::Inside(Next::Lend(child)) => return Some(Next::Lend(child)),
                 Lent::Inside(Next::Nothing) => return Some(Next::Nothing),
@@ -308,31 +314,66 @@ impl<'t> HartLocal<'t> {
     }
 
     /// The next action of a hart that is inside. A guest gets `Nothing` if there is nothing to do. The hart at the base and the
-    /// home back off until there is something to do, or their work is done.
+    /// home back off until there is something to do, or their work is done. A hart that gets no job hands over the pieces that it
+    /// keeps.
     pub fn next<'b, 'p, R: Wait + 'b>(
         &mut self,
         rt: &'b R,
         scheduler_ref: SchedulerRef<'b, 'p>,
+        kept: &mut Option<PieceBatch<'p>>,
         is_home: bool,
     ) -> Next<Job<'p>>
         requires { Fits self.old scheduler_ref }
-        ensures { self.new ≡ self.old }
+        ensures hart_local { self.new ≡ self.old }
+        ensures kept { HandsOver scheduler_ref.entry kept.old result kept.new }
     {
         let is_guest = !is_home && !matches!(scheduler_ref, SchedulerRef::Base(_));
         let backoff = Backoff::new();
         'looks: for _ in rt.forever() {
             if self.is_over(rt, scheduler_ref, is_home) {
+                let _ = self.hand_over(rt, scheduler_ref, kept);
                 return Next::Nothing;
             }
             match self.look(rt, scheduler_ref) {
                 Next::Run(Some(job)) => return Next::Run(job),
                 Next::Run(None) => {}
-                Next::Lend(child) => return Next::Lend(child),
-                Next::Nothing if is_guest => return Next::Nothing,
-                Next::Nothing => backoff.snooze(),
+                Next::Lend(child) => {
+                    let _ = self.hand_over(rt, scheduler_ref, kept);
+                    return Next::Lend(child);
+                }
+                Next::Nothing => {
+                    let had_any = self.hand_over(rt, scheduler_ref, kept);
+                    if is_guest {
+                        return Next::Nothing;
+                    }
+                    if !had_any {
+                        backoff.snooze();
+                    }
+                }
             }
         }
         unreachable!()
+    }
+
+    // Hands over the pieces that the hart keeps, if the scheduler is a pool. Returns whether there were any.
+    fn hand_over<'b, 'p, R: Wait + 'b>(
+        &mut self,
+        rt: &'b R,
+        scheduler_ref: SchedulerRef<'b, 'p>,
+        kept: &mut Option<PieceBatch<'p>>,
+    ) -> bool
+        requires { Fits self.old scheduler_ref }
+        ensures hart_local { self.new ≡ self.old }
+        ensures kept { kept.new ≡ handed_to scheduler_ref.entry kept.old }
+        ensures any { result ≡ false → kept.new ≡ kept.old }
+    {
+        match scheduler_ref {
+            SchedulerRef::Pool(place) => hand_over_in(rt, place, &mut self.rows, kept),
+            SchedulerRef::Base(_)
+            | SchedulerRef::Team(_)
+            | SchedulerRef::Pipe(_)
+            | SchedulerRef::NoScheduler => { false }
+        }
     }
 
     // The action that the scheduler returns for a hart inside.
@@ -378,19 +419,25 @@ impl<'t> HartLocal<'t> {
         }
     }
 
-    /// Gives the scheduler a piece that is done. A piece that is a stranger to the scheduler is dropped.
+    /// Gives the scheduler a piece that is done. A pool's piece is kept, to hand it over with others. If it can't be kept, the
+    /// pool gets it at once. A piece that is a stranger to the scheduler is dropped.
     pub fn deposit<'b, 'p, R: Wait + 'b>(
         &mut self,
         rt: &'b R,
+        alloc: Global,
         scheduler_ref: SchedulerRef<'b, 'p>,
+        kept: &mut Option<PieceBatch<'p>>,
         piece: Piece<'p>,
     )
         requires { Fits self.old scheduler_ref }
-        ensures { self.new ≡ self.old }
+        ensures hart_local { self.new ≡ self.old }
+        ensures kept { StillKeeps kept.old piece.entry kept.new }
     {
         match scheduler_ref {
             SchedulerRef::Pool(place) => {
-                let _ = place.hand::<R>(&mut self.rows).deposit(rt, piece);
+                if let Err(piece) = keep(alloc, place.pool, kept, piece) {
+                    let _ = place.hand::<R>(&mut self.rows).deposit(rt, piece);
+                }
             }
             SchedulerRef::Team(place) => {
                 let _ = place.hand::<R>(&mut self.seat).arrive(rt, piece);
@@ -521,6 +568,26 @@ pub(crate) fn offer_in<'b, 'p, R: Wait + 'b>(
     if place.home == rows.hart() && has_room(rows, place.level, place.pool.jobs().len()) {
         place.hand(rows).offer(rt);
     }
+}
+
+// Puts all kept pieces into the pool. Returns whether there were any.
+fn hand_over_in<'b, 'p, R: Wait + 'b>(
+    rt: &'b R,
+    place: PoolPlace<'b, 'p>,
+    rows: &mut HartRows,
+    kept: &mut Option<PieceBatch<'p>>,
+) -> bool
+    requires { PoolFits (rows_identity rows.old) place }
+    ensures rows { rows_identity rows.new ≡ rows_identity rows.old }
+    ensures kept { kept.new ≡ option_map emptied kept.old }
+    ensures any { result ≡ false → kept.new ≡ kept.old }
+{
+    let Some(batch) = kept else { return false };
+    if batch.is_empty() {
+        return false;
+    }
+    place.hand(rows).hand_over(rt, batch);
+    true
 }
 
 // Whether the hart's deque of this level has room for `count` job indices.

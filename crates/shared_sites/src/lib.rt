@@ -17,6 +17,7 @@ mod completed;
 mod directory;
 mod hand;
 mod hart_local;
+mod kept;
 mod scheduler_ref;
 mod shared_site;
 mod work;

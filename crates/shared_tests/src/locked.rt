@@ -57,7 +57,7 @@ fn hart<'x, 'p: 'x, R: Threads + Wait + Sync>(
 
 // The hart-local state of the first hart that has none yet.
 fn next_hart_local<'x>(hart_local: &mut Vec<HartLocal<'x>>) -> Result<HartLocal<'x>, Fail> {
-    Ok(hart_local.pop().ok_or("too few tools")?)
+    Ok(hart_local.pop().ok_or("no hart-local state is left")?)
 }
 
 // A hart for each of the plan's. The first has the job, and is last in the list.
