@@ -11,7 +11,7 @@ use Rattle.lone_hart.proofs.pools.open_pool.Goals as goal
 -- The jobs start from the construct's store.
 pub of_one_start-requires-clause-start : goal.of_one_start-requires-clause-start
 of_one_start-requires-clause-start c =
-    jobs_start_alike (nested_of c.args.nested.now) 0 c.args.nested.now.store c.in_ok-jobs.jobs.items c.in_ok-jobs.ensures.jobs
+    jobs_start_alike (nested_of c.args.nested.now) 0 c.nested.inside.store c.in_ok-jobs.jobs.items c.in_ok-jobs.ensures.jobs
 
 pub returns-clause-none : goal.returns-clause-none
 returns-clause-none c =
