@@ -52,13 +52,13 @@ fn has_own_after<R: Wait>(rt: &R, alloc: Global, own: bool) -> Result<bool, Fail
     let program = parsed(alloc, TWO_BRANCHES)?;
     let other = parsed(alloc, AFTER_A_WRITE)?;
     let shared = shared_pool(alloc, &program)?;
-    let mut rows = own_rows(alloc)?;
-    let mut hand = PoolHand::new(&shared, &mut rows, 0, 1);
     let second = if own {
         piece_at(alloc, shared.jobs(), 1)?
     } else {
         second_piece(alloc, &other)?
     };
+    let mut rows = own_rows(alloc)?;
+    let mut hand = PoolHand::new(&shared, &mut rows, 0, 1);
     keeps_its_jobs(rt, &mut hand, alloc, second)
 }
 
