@@ -2,6 +2,7 @@
 use crate::hands::{own_rows, shared_pool};
 use crate::stores::{AFTER_A_WRITE, second_piece};
 use array_jobs::Piece;
+use array_tree::Program;
 use forkjoin_sched::{PieceBatch, PoolHand};
 use sample_programs::{TWO_BRANCHES, parsed, piece_at};
 use std::alloc::Global;
@@ -47,19 +48,30 @@ fn keeps_its_jobs<'a, 'p, R: Wait + 'a>(
     }
 }
 
-// Whether a pool has its own jobs after its own second piece was handed over, or that of another store.
-fn has_own_after<R: Wait>(rt: &R, alloc: Global, own: bool) -> Result<bool, Fail> {
-    let program = parsed(alloc, TWO_BRANCHES)?;
-    let other = parsed(alloc, AFTER_A_WRITE)?;
-    let shared = shared_pool(alloc, &program)?;
+// Whether a pool of this program has its own jobs after its own second piece was handed over, or that of the other program.
+fn has_own_jobs<'p, R: Wait>(
+    rt: &R,
+    alloc: Global,
+    program: &'p Program,
+    other: &'p Program,
+    own: bool,
+) -> Result<bool, Fail> {
+    let shared = shared_pool(alloc, program)?;
     let second = if own {
         piece_at(alloc, shared.jobs(), 1)?
     } else {
-        second_piece(alloc, &other)?
+        second_piece(alloc, other)?
     };
     let mut rows = own_rows(alloc)?;
     let mut hand = PoolHand::new(&shared, &mut rows, 0, 1);
     keeps_its_jobs(rt, &mut hand, alloc, second)
+}
+
+// The same of the two branches, and of these after a write.
+fn has_own_after<R: Wait>(rt: &R, alloc: Global, own: bool) -> Result<bool, Fail> {
+    let program = parsed(alloc, TWO_BRANCHES)?;
+    let other = parsed(alloc, AFTER_A_WRITE)?;
+    has_own_jobs(rt, alloc, &program, &other, own)
 }
 
 #[test]
