@@ -9,9 +9,12 @@ use Rattle.forkjoin_sched.specs.Pools.{PoolParts}
 use Rattle.forkjoin_sched.specs.declared.work.PoolWork.TheVariants as pool_work
 use Rattle.loop_team.specs.Teams.{TeamParts, AreJobsIn, phases_in}
 use Rattle.loop_team.specs.declared.work.TeamWork.TheVariants as team_work
+use Rattle.sched_api.specs.declared.scheduler.Next.{Next}
+use Rattle.hart_work.specs.Sites.{SiteFacts, Gives}
+use Rattle.job_machines.specs.Accounts.{is_fresh_job}
 use Rattle.job_machines.specs.Orders.{HasServed}
 use Rattle.lone_hart.specs.Accounts.{Stands}
-use Rattle.lone_hart.specs.Sites.{IsPoolOf}
+use Rattle.lone_hart.specs.Sites.{IsPoolOf, construct_in, jobs_left, IsSettledSite, IsOwed, IsOverSite}
 use Rattle.lone_hart.specs.declared.site.LoneSite.{LoneSite}
 use Rattle.lone_hart.specs.declared.site.LoneSite.TheVariants.{Base, Pool, Team}
 
@@ -82,3 +85,28 @@ abbrev pub is_failed : LoneSite → Type 0
 is_failed (Base base) = ⊥
 is_failed (Pool nested pool) = HasFailed pool.book
 is_failed (Team t) = t.failed ≡ true
+
+-- The number of the site.
+abbrev pub number_in : LoneSite → ℕ
+number_in (Base base) = 0
+number_in (Pool nested pool) = pool.site
+number_in (Team t) = t.nested.site
+
+-- What contracts see of a site.
+abbrev pub lone_facts : SiteFacts LoneSite JobParts NestedParts
+lone_facts = record {
+  construct = construct_in;
+  number = number_in;
+  settled = IsSettledSite;
+  owed = IsOwed;
+  over = IsOverSite;
+  failed = is_failed;
+  serving = is_serving;
+  lent = is_lent;
+  left = jobs_left;
+}
+
+-- The only hart's next action at a settled site.
+abbrev pub GivesLone : LoneSite → Next JobParts → LoneSite → Type 0
+GivesLone before next after =
+    IsSettledSite before → Gives lone_facts is_fresh_job before next after

@@ -1,7 +1,7 @@
 //! The work that a scheduler gives a hart.
 ghost use Rattle.std.specs.Prelude.{◌≡◌, Option, None};
 ghost use Rattle.array_jobs.specs.Jobs.{JobParts};
-ghost use Rattle.shared_sites.specs.Told.{pool_job, team_job, pipe_job, with_job};
+ghost use Rattle.shared_sites.specs.Work.{pool_job, team_job, pipe_job, with_job};
 
 use array_jobs::Job;
 use forkjoin_sched::PoolWork;
@@ -30,7 +30,7 @@ impl<'p> Work<'p> for () {
 }
 
 impl<'p> Work<'p> for PoolWork<'p> {
-    ghost use Rattle.shared_sites.specs.Told.{pool_job};
+    ghost use Rattle.shared_sites.specs.Work.{pool_job};
 
     ghost job = { pool_job };
 
@@ -43,7 +43,7 @@ impl<'p> Work<'p> for PoolWork<'p> {
 }
 
 impl<'p> Work<'p> for TeamWork<'p> {
-    ghost use Rattle.shared_sites.specs.Told.{team_job};
+    ghost use Rattle.shared_sites.specs.Work.{team_job};
 
     ghost job = { team_job };
 
@@ -56,7 +56,7 @@ impl<'p> Work<'p> for TeamWork<'p> {
 }
 
 impl<'p> Work<'p> for PipeWork<'p> {
-    ghost use Rattle.shared_sites.specs.Told.{pipe_job};
+    ghost use Rattle.shared_sites.specs.Work.{pipe_job};
 
     ghost job = { pipe_job };
 
