@@ -10,18 +10,13 @@ use crate::ranges::range_fault;
 use crate::units::units_of_block;
 use array_tree::Program;
 use site_counts::{pieces_in_block, sites_in_block};
+use transfer_table::has_too_many_sites;
 
 /// The greatest depth to which constructs nest.
 const MOST_LEVELS: u32 = 3;
 
 /// The greatest number of units of work.
 const MOST_UNITS: u64 = 1_048_576;
-
-/// The greatest number of sites.
-const MOST_SITES: u64 = 4095;
-
-/// The greatest number of entries of a journal.
-const MOST_ENTRIES: u64 = 65_535;
 
 /// The greatest number of pieces.
 const MOST_PIECES: u64 = 16_384;
@@ -51,7 +46,7 @@ pub(crate) fn limit_fault(program: &Program, harts: u8) -> Option<CheckFault>
         return Some(CheckFault::TooMuchWork { units });
     }
     let sites = sites_in_block(&program.body);
-    if sites > MOST_SITES || sites * (3 * u64::from(harts) - 1) > MOST_ENTRIES {
+    if has_too_many_sites(harts, sites) {
         return Some(CheckFault::TooManySites { sites });
     }
     let pieces = pieces_in_block(&program.body);

@@ -7,15 +7,13 @@ ghost use Rattle.disjoint_check.specs.FirstRanges.{declaration_fault, declaratio
 use crate::fault::{CheckFault, Limit};
 use array_tree::{ArrayDecl, Block, Blocks, Program, Stmt};
 use site_counts::count_of;
+use touch_bounds::MOST_MEMBERS;
 
 /// The greatest number of arrays.
 const MOST_ARRAYS: usize = 64;
 
 /// The greatest number of cells of an array, and of all arrays together.
 const MOST_CELLS: i64 = 4096;
-
-/// The greatest number of branches of a `par`, and of members of a `team`.
-const MOST_MEMBERS: usize = 64;
 
 /// The greatest number of phases of a `team`.
 const MOST_PHASES: usize = 8;
@@ -108,7 +106,7 @@ fn range_fault_in_statement(statement: &Stmt) -> Option<CheckFault>
         }
         Stmt::Par { line, branches } => {
             let count = count_of(branches);
-            if count < 1 || count > MOST_MEMBERS {
+            if count < 1 || count > MOST_MEMBERS as usize {
                 return Some(bad_range(*line, Limit::Branches, clamped(count)));
             }
             range_fault_among(branches)

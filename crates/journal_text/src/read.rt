@@ -9,10 +9,7 @@ use crate::fault::TextFault;
 use crate::number::number_up_to;
 use crate::row::{entry_in, is_word, row_of};
 use std::alloc::{AllocError, Global};
-use transfer_table::{Entries, Entry, Plan};
-
-// The greatest number of entries of a list that is read: that of a legal one.
-const MOST_ENTRIES: u32 = 65_535;
+use transfer_table::{Entries, Entry, MOST_ENTRIES, Plan};
 
 /// Reads the entries of a journal's text, at most 65,535. Each list of entries has one text.
 ///

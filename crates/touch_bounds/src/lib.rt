@@ -25,5 +25,5 @@ pub use ranges::Ranges;
 pub use round::{branches_are_apart, indices_are_inside, members_are_apart};
 pub use sites::loop_is_settled;
 pub use touch::{Stretch, Touch, UNTOUCHED};
-pub use weight::{branches_pay, loop_pays, phase_pays, statement_pays};
+pub use weight::{MOST_MEMBERS, branches_pay, loop_pays, phase_pays, statement_pays};
 pub use work::note_block;

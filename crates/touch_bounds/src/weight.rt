@@ -3,8 +3,8 @@
 use array_eval::span;
 use array_tree::{Block, Blocks, Stmt};
 
-/// The greatest number of members of a `team`.
-const MOST_MEMBERS: u64 = 64;
+/// The greatest number of branches of a `par`, and of members of a `team`.
+pub const MOST_MEMBERS: u64 = 64;
 
 // The number of statements in a text, and the number that run, loops included. The greatest number of 64 bits also stands for
 // all greater numbers.

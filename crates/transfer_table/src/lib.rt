@@ -22,4 +22,4 @@ pub use board::Board;
 pub use entries::Entries;
 pub use entry::{Entry, NotAdmitted, Row, Stage};
 pub use fault::{Fault, Why, first_fault};
-pub use plan::{Plan, PlanFault};
+pub use plan::{MOST_ENTRIES, Plan, PlanFault, has_too_many_sites};

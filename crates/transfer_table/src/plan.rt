@@ -1,6 +1,6 @@
 //! How many harts there are, and the tree of the sites.
 ghost use Rattle.std.specs.Prelude.{◌≡◌, ◌≢◌, ◌≤◌, ◌<◌, ◌*◌, ◌-◌, ◌||◌, nat_lt, length, IfOk, Some, None};
-ghost use Rattle.transfer_table.specs.Plan.{IsPlan, IsSite, bad_parent, is_within, parent, plan_fault_of, site_count};
+ghost use Rattle.transfer_table.specs.Plan.{IsPlan, IsSite, bad_parent, is_within, most_entries, most_sites, parent, plan_fault_of, site_count};
 
 use std::alloc::{AllocError, Global};
 use std::marker::Model;
@@ -9,10 +9,10 @@ use std::marker::Model;
 const MOST_HARTS: u8 = 16;
 
 /// The greatest number of sites.
-const MOST_SITES: usize = 4095;
+const MOST_SITES: u64 = 4095;
 
-/// The greatest number of entries for which a plan may have room.
-const MOST_ENTRIES: usize = 65535;
+/// The greatest number of entries of a legal list, for which a plan may have room.
+pub const MOST_ENTRIES: u32 = 65_535;
 
 /// A number of harts from 1 to 16, and a parent for each of at most 4,095 sites, whose number times `3 * harts - 1`,
 /// the length of the longest legal list, is at most 65,535. Sites are numbered from 1, a site's parent is smaller than
@@ -153,7 +153,7 @@ fn fault_of(harts: u8, parents: &[u16]) -> Option<PlanFault>
     if harts == 0 || harts > MOST_HARTS {
         return Some(PlanFault::BadHarts { found: harts });
     }
-    if has_too_many_sites(harts, parents.len()) {
+    if has_too_many_sites(harts, parents.len() as u64) {
         return Some(PlanFault::TooManySites {
             found: parents.len() as u64,
         });
@@ -161,17 +161,17 @@ fn fault_of(harts: u8, parents: &[u16]) -> Option<PlanFault>
     bad_parent(parents).map(|site| PlanFault::BadParent { site })
 }
 
-// Whether there are too many sites, by their number or by the room for entries on so many harts.
-fn has_too_many_sites(harts: u8, sites: usize) -> bool
+/// Whether no plan has so many sites, by their number or by the room for entries on so many harts.
+pub fn has_too_many_sites(harts: u8, sites: u64) -> bool
     requires { (1 ≤ harts) × (harts ≤ 16) }
-    ensures { result ≡ (nat_lt 4095 sites || nat_lt 65535 (sites * (3 * harts - 1))) }
+    ensures { result ≡ (nat_lt most_sites sites || nat_lt most_entries (sites * (3 * harts - 1))) }
 {
-    sites > MOST_SITES || sites * (3 * harts as usize - 1) > MOST_ENTRIES
+    sites > MOST_SITES || sites * (3 * u64::from(harts) - 1) > u64::from(MOST_ENTRIES)
 }
 
 // The least site whose parent isn't smaller.
 fn bad_parent(parents: &[u16]) -> Option<u16>
-    requires { length parents.now ≤ 4095 }
+    requires { length parents.now ≤ most_sites }
     ensures { result ≡ bad_parent parents.now 1 }
 {
     for i in 0..parents.len() {
