@@ -26,11 +26,12 @@ use Rattle.step_eval.proofs.PhaseLemmas.{jobs_are_rounds, jobs_are_counted}
 use Rattle.phase_order.specs.Crossings.{IsCrossing, HasNoCrossing, HasNoCrossings}
 use Rattle.phase_order.specs.Tests.{crosses, crossing, IsTouchedBelow, IsLeastCrossing}
 use Rattle.phase_order.proofs.Tests.{least_crossing}
+use Rattle.site_walk.specs.Firsts.{first_of}
 use Rattle.site_walk.proofs.ApartLemmas.{of_sequence}
 use Rattle.site_walk.proofs.PieceLemmas.{first_none}
 use Rattle.pipe_walk.specs.declared.fault.PipeFault.{PipeFault}
 use Rattle.pipe_walk.specs.declared.fault.PipeFault.TheVariants.{Crossing, Memory}
-use Rattle.pipe_walk.specs.FirstCrossing.{first_crossing, IsFaultOf}
+use Rattle.pipe_walk.specs.FirstCrossing.{site_crossing, IsFaultOf}
 
 -- What a piece touches lies inside the arrays.
 abbrev pub IsWithin : Arrays → Steps → Type 0
@@ -255,14 +256,14 @@ next_noted arrays site more clear (Some (Crossing line cell)) h = record {
     before (suc i) s less e = h.earlier i s (omega arith) e
 next_noted arrays site more clear (Some Memory) h = h
 
-sites_noted : (arrays : Arrays) (sites : List Site) → EachSite arrays sites → IsNoted arrays sites (first_crossing arrays sites)
+sites_noted : (arrays : Arrays) (sites : List Site) → EachSite arrays sites → IsNoted arrays sites (first_of (site_crossing arrays) sites)
 sites_noted arrays [] h = λ i s e. absurd (cc)
 sites_noted arrays (site ∷ more) h =
     cases (crossing arrays (cells_of arrays) site.rounds) (least_crossing arrays (cells_of arrays) site.rounds (rounds_within arrays site.rounds h.0)) (sites_noted arrays more h.1)
   where
-    cases : (found : Option ℕ) → IsLeastCrossing arrays site.rounds found → IsNoted arrays more (first_crossing arrays more) →
-        IsNoted arrays (site ∷ more) (option_or (option_map (Crossing site.line) found) (first_crossing arrays more))
-    cases None clear rest = next_noted arrays site more clear (first_crossing arrays more) rest
+    cases : (found : Option ℕ) → IsLeastCrossing arrays site.rounds found → IsNoted arrays more (first_of (site_crossing arrays) more) →
+        IsNoted arrays (site ∷ more) (option_or (option_map (Crossing site.line) found) (first_of (site_crossing arrays) more))
+    cases None clear rest = next_noted arrays site more clear (first_of (site_crossing arrays) more) rest
     cases (Some cell) least rest = record {
       number = 0;
       site = site;
@@ -275,7 +276,7 @@ sites_noted arrays (site ∷ more) h =
 
 -- The first crossing of an accepted program.
 program_noted : (program : ProgramTree) → IsAccepted program →
-    IsNoted (arrays_of program.arrays) (sequence_sites program.body []) (first_crossing (arrays_of program.arrays) (sequence_sites program.body []))
+    IsNoted (arrays_of program.arrays) (sequence_sites program.body []) (first_of (site_crossing (arrays_of program.arrays)) (sequence_sites program.body []))
 program_noted program accepted =
     let arrays = arrays_of program.arrays in
     let visits = walk arrays (sequence_work program.body []) in
@@ -283,12 +284,12 @@ program_noted program accepted =
     ap (λ names. are_known names visits) (names_in_of program.arrays) ∙ sequence_known arrays (names_of program.arrays) program.body [] [] accepted.known_names in
     sites_noted arrays (sequence_sites program.body []) (of_sequence arrays (IsVisitWithin arrays) program.body [] (visits_within arrays visits named accepted.indices))
 
-pub none_crosses : (program : ProgramTree) → IsAccepted program → first_crossing (arrays_of program.arrays) (sequence_sites program.body []) ≡ None → HasNoCrossings program
+pub none_crosses : (program : ProgramTree) → IsAccepted program → first_of (site_crossing (arrays_of program.arrays)) (sequence_sites program.body []) ≡ None → HasNoCrossings program
 none_crosses program accepted e =
     subst (IsNoted (arrays_of program.arrays) (sequence_sites program.body [])) e (program_noted program accepted)
 
 pub fault_noted : (program : ProgramTree) → IsAccepted program → (fault : PipeFault) →
-    first_crossing (arrays_of program.arrays) (sequence_sites program.body []) ≡ Some fault → IsFaultOf program fault
+    first_of (site_crossing (arrays_of program.arrays)) (sequence_sites program.body []) ≡ Some fault → IsFaultOf program fault
 fault_noted program accepted fault e =
     cases fault (subst (IsNoted (arrays_of program.arrays) (sequence_sites program.body [])) e (program_noted program accepted))
   where

@@ -1,4 +1,3 @@
-pub mod MarkLemmas
 pub mod MemberLemmas
 pub mod OwnerLemmas
 pub mod PieceLemmas

@@ -1,5 +1,6 @@
 -- The table's marks of a cell, visit by visit and piece by piece.
 use Rattle.std.proofs.Common.{◌≡◌, ℕ, ◌+◌, ◌<◌, cond, Bool, true, false, List, [], ◌∷◌, length, Option, Some, None, ℤ, refl, sym, ap, ◌∙◌, arith, length-set}
+use Rattle.std.specs.List.{fold}
 use Rattle.std.specs.Prelude.{nat_eq, ◌&&◌, ◌||◌, not, slice_set, slice_index_or}
 use Rattle.std.proofs.lemmas.Bool.{false≢true}
 use Rattle.std.proofs.lemmas.Bool.Decides.{nat_tests}
@@ -17,7 +18,7 @@ use Rattle.pipe_walk.specs.declared.members.Members.TheVariants.{Between}
 use Rattle.pipe_walk.specs.declared.touch.Touch.{Touch}
 use Rattle.pipe_walk.specs.Inside.Members.{joined_members, joined, untouched, touch_in, touch_by}
 use Rattle.pipe_walk.specs.Inside.Tables.{TableParts, touch_at, added, IsFor}
-use Rattle.pipe_walk.specs.Inside.Marks.{with_touch, with_visits, with_piece, with_pieces}
+use Rattle.pipe_walk.specs.Inside.Marks.{with_touch, with_visit, with_piece, with_pieces}
 use Rattle.pipe_walk.proofs.MemberLemmas.{members_assoc, members_turned, members_again, member_if, members_in}
 use Rattle.pipe_walk.proofs.OwnerLemmas.{owner_is}
 
@@ -127,19 +128,19 @@ visit_first j true false w true s = ap (λ m. noted m (member_if w j s.changed))
 visit_first j true false w false s = refl
 
 pub touch_with_visits : (arrays : Arrays) (j : ℕ) (vs : List Visit) (t : TableParts) (c : ℕ) → IsFor arrays t → c < cells_of arrays →
-    touch_at (with_visits arrays j vs t) c ≡ after_piece j (changed arrays vs c) (read arrays vs c) (touch_at t c)
+    touch_at (fold (with_visit arrays j) t vs) c ≡ after_piece j (changed arrays vs c) (read arrays vs c) (touch_at t c)
 touch_with_visits arrays j [] t c for_them small = refl
 touch_with_visits arrays j (v ∷ vs) t c for_them small =
     touch_with_visits arrays j vs (with_touch arrays j v.writes v.array v.index t) c (stays_for arrays j v.writes v.array v.index t for_them) small
     ∙ ap (after_piece j (changed arrays vs c) (read arrays vs c)) (touch_with_touch arrays j v.writes v.array v.index t c for_them small)
     ∙ visit_first j (covers arrays v.array v.index c) v.writes (changed arrays vs c) (read arrays vs c) (touch_at t c)
 
-visits_stay_for : (arrays : Arrays) (j : ℕ) (vs : List Visit) (t : TableParts) → IsFor arrays t → IsFor arrays (with_visits arrays j vs t)
+visits_stay_for : (arrays : Arrays) (j : ℕ) (vs : List Visit) (t : TableParts) → IsFor arrays t → IsFor arrays (fold (with_visit arrays j) t vs)
 visits_stay_for arrays j [] t for_them = for_them
 visits_stay_for arrays j (v ∷ vs) t for_them =
     visits_stay_for arrays j vs (with_touch arrays j v.writes v.array v.index t) (stays_for arrays j v.writes v.array v.index t for_them)
 
-visits_keep_past : (arrays : Arrays) (j : ℕ) (vs : List Visit) (t : TableParts) → (with_visits arrays j vs t).past ≡ t.past
+visits_keep_past : (arrays : Arrays) (j : ℕ) (vs : List Visit) (t : TableParts) → (fold (with_visit arrays j) t vs).past ≡ t.past
 visits_keep_past arrays j [] t = refl
 visits_keep_past arrays j (v ∷ vs) t = visits_keep_past arrays j vs (with_touch arrays j v.writes v.array v.index t) ∙ kept v.index
   where

@@ -1,6 +1,6 @@
 -- The first crossing of two pieces of a site.
-use Rattle.std.specs.Prelude.{List, [], ◌∷◌, Option, None}
-use Rattle.std.specs.Option.{option_map, option_or}
+use Rattle.std.specs.Prelude.{Option}
+use Rattle.std.specs.Option.{option_map}
 use Rattle.array_tree.specs.Trees.{ProgramTree}
 use Rattle.array_meaning.specs.Stores.{Arrays, cells_of}
 use Rattle.array_meaning.specs.Sites.{Site}
@@ -18,12 +18,3 @@ IsFaultOf program Memory = Unit {0}
 abbrev pub site_crossing : Arrays → Site → Option PipeFault
 site_crossing arrays site =
     option_map (Crossing site.line) (crossing arrays (cells_of arrays) site.rounds)
-
--- The fault of the first of the sites that has one.
-abbrev pub first_crossing : Arrays → List Site → Option PipeFault
-first_crossing arrays [] = None
-first_crossing arrays (site ∷ more) = option_or (site_crossing arrays site) (first_crossing arrays more)
-
--- An earlier fault, or else the first crossing of sites.
-abbrev pub or_crossing : Arrays → List Site → Option PipeFault → Option PipeFault
-or_crossing arrays sites found = option_or found (first_crossing arrays sites)

@@ -5,10 +5,11 @@ ghost use Rattle.phase_order.specs.Crossings.{HasNoCrossings};
 ghost use Rattle.pipe_walk.specs.FirstCrossing.{IsFaultOf};
 
 use crate::fault::PipeFault;
-use crate::seek::seek_block;
+use crate::seek::Crossings;
 use crate::table::Table;
 use array_eval::{Layout, Scope};
 use disjoint_check::Accepted;
+use site_walk::seek_block;
 use std::alloc::Global;
 
 /// Checks whether the members of each `team` of a program may go on without waiting for one another: at no site do two pieces
@@ -30,19 +31,16 @@ pub fn pipe_check(alloc: Global, accepted: &Accepted) -> Result<(), PipeFault>
     let Ok(layout) = Layout::new(alloc, &program.arrays) else {
         return Err(PipeFault::Memory);
     };
-    let Ok(mut table) = Table::new(alloc, &layout) else {
+    let Ok(table) = Table::new(alloc, &layout) else {
         return Err(PipeFault::Memory);
     };
-    let mut found = None;
-    seek_block(
+    let mut search = Crossings {
         alloc,
-        &layout,
-        &program.body,
-        &Scope::Outermost,
-        &mut table,
-        &mut found,
-    );
-    match found {
+        table,
+        found: None,
+    };
+    seek_block(&mut search, &layout, &program.body, &Scope::Outermost);
+    match search.found {
         Some(fault) => Err(fault),
         None => Ok(()),
     }

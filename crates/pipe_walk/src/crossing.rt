@@ -12,11 +12,12 @@ ghost use Rattle.phase_order.specs.Tests.{crosses, crossing};
 ghost use Rattle.pipe_walk.specs.Inside.Tables.{past_in, IsFor};
 ghost use Rattle.pipe_walk.specs.Inside.Marks.{with_pieces};
 
-use crate::mark::mark_loop;
+use crate::mark::Member;
 use crate::stretches::members_are_clear;
 use crate::table::Table;
 use array_eval::{Layout, Scope, span, start_of_member};
 use array_tree::{Block, Blocks, Name};
+use site_walk::{Turns, visit_loop};
 use std::alloc::{AllocError, Global};
 use touch_bounds::{Ranges, branches_pay, phase_pays};
 
@@ -39,18 +40,12 @@ fn mark_members<'s>(
         (vars_of scope.now)) table.old }
 {
     for member in 0..members {
-        let start = start_of_member(low, high, members, member);
-        let end = start_of_member(low, high, members, member + 1);
-        mark_loop(
-            layout,
-            member as usize,
-            phase,
+        let part = Turns {
             var,
-            start,
-            end,
-            scope,
-            table,
-        );
+            low: start_of_member(low, high, members, member),
+            high: start_of_member(low, high, members, member + 1),
+        };
+        visit_loop(&Member(member as usize), layout, phase, &part, scope, table);
     }
 }
 

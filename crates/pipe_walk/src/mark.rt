@@ -1,187 +1,28 @@
-//! The walk that marks the cells that a member touches in a phase.
-ghost use Rattle.std.specs.Prelude.{◌≡◌, true, false};
-ghost use Rattle.array_tree.specs.Trees.{expression_of, statement_of, sequence_of, sequences_of};
-ghost use Rattle.array_meaning.specs.Work.{statement_work, sequence_work, branches_work, phases_work, loop};
-ghost use Rattle.array_meaning.specs.Touch.{reads_in, visit};
-ghost use Rattle.array_eval.specs.Views.{vars_of};
-ghost use Rattle.pipe_walk.specs.Inside.Marks.{with_touch, with_visits, with_piece};
+//! The marks that a member makes.
+ghost use Rattle.pipe_walk.specs.Inside.Marks.{with_visit};
 
 use crate::table::Table;
 use crate::touch::Touch;
 use array_eval::{Layout, NoCells, Scope, evaluate, is_dynamic};
-use array_tree::{Block, Blocks, Expr, Name, Stmt};
+use site_walk::{Access, Visits};
 
-// Marks the cells that an index of an array touches.
-fn mark_index(
-    layout: &Layout,
-    member: usize,
-    writes: bool,
-    scope: &Scope,
-    array: &Name,
-    index: &Expr,
-    table: &mut Table,
-)
-    ensures { table.new ≡ with_touch layout.now member writes array.now
-        (visit layout.now 0 writes (vars_of scope.now) array.now
-        (expression_of index.now)).index table.old }
-{
-    let place = layout.place_of(array);
-    let more = Touch::by(member, writes);
-    if is_dynamic(index) {
-        table.touch_array(place.number, more);
-    } else {
-        let number = evaluate(layout, index, scope, &NoCells);
-        table.touch_cell(place.base + number.unsigned_abs() as usize, more);
-    }
-}
+/// Marks the cells that a member of this number touches.
+#[derive(Clone, Copy)]
+pub(crate) struct Member(pub(crate) usize);
 
-// Marks the reads of an expression. A mark has no line.
-#[tactic(auto, using(crate::proofs::MarkLemmas::visits_append))]
-fn mark_reads(layout: &Layout, member: usize, scope: &Scope, expr: &Expr, table: &mut Table)
-    ensures { table.new ≡ with_visits layout.now member
-        (reads_in layout.now 0 (vars_of scope.now) (expression_of expr.now)) table.old }
-{
-    match expr {
-        Expr::Number(_) | Expr::Var(_) => {}
-        Expr::Read(array, index) => {
-            mark_reads(layout, member, scope, index, table);
-            mark_index(layout, member, false, scope, array, index, table);
+impl Visits for Member {
+    type Notes = Table;
+
+    ghost noted = { λ member arrays table v. with_visit arrays member.0 table v };
+
+    fn note(&self, layout: &Layout, access: &Access, scope: &Scope, table: &mut Table) {
+        let place = layout.place_of(access.array);
+        let more = Touch::by(self.0, access.writes);
+        if is_dynamic(access.index) {
+            table.touch_array(place.number, more);
+        } else {
+            let number = evaluate(layout, access.index, scope, &NoCells);
+            table.touch_cell(place.base + number.unsigned_abs() as usize, more);
         }
-        Expr::Neg(operand) => mark_reads(layout, member, scope, operand, table),
-        Expr::Binary(_, left, right) => {
-            mark_reads(layout, member, scope, left, table);
-            mark_reads(layout, member, scope, right, table);
-        }
-    }
-}
-
-// Marks the cells that a member touches in a block: both sides of each `if`, and its branches and phases in any order.
-#[cycle(mark)]
-fn mark_block<'s>(
-    layout: &Layout,
-    member: usize,
-    block: &'s Block,
-    scope: &'s Scope<'s>,
-    table: &mut Table,
-)
-    ensures { table.new ≡ with_piece layout.now member
-        (sequence_work (sequence_of block.now) (vars_of scope.now)) table.old }
-{
-    for statement in &block.statements {
-        mark_statement(layout, member, statement, scope, table);
-    }
-}
-
-// The same for a statement.
-#[cycle(mark)]
-fn mark_statement<'s>(
-    layout: &Layout,
-    member: usize,
-    statement: &'s Stmt,
-    scope: &'s Scope<'s>,
-    table: &mut Table,
-)
-    ensures { table.new ≡ with_piece layout.now member (statement_work (statement_of statement.now)
-        (vars_of scope.now)) table.old }
-{
-    match statement {
-        Stmt::Assign {
-            array,
-            index,
-            value,
-            ..
-        } => {
-            mark_reads(layout, member, scope, index, table);
-            mark_reads(layout, member, scope, value, table);
-            mark_index(layout, member, true, scope, array, index, table);
-        }
-        Stmt::For {
-            var,
-            low,
-            high,
-            body,
-            ..
-        } => mark_loop(layout, member, body, var, *low, *high, scope, table),
-        Stmt::If {
-            cond,
-            then_block,
-            else_block,
-            ..
-        } => {
-            mark_reads(layout, member, scope, cond, table);
-            mark_block(layout, member, then_block, scope, table);
-            mark_block(layout, member, else_block, scope, table);
-        }
-        Stmt::Par { branches, .. } => mark_branches(layout, member, branches, scope, table),
-        Stmt::Team {
-            var,
-            low,
-            high,
-            phases,
-            ..
-        } => mark_phases(layout, member, phases, var, *low, *high, scope, table),
-    }
-}
-
-/// The same for a block for each number from low to before high.
-#[cycle(mark)]
-pub(crate) fn mark_loop<'s>(
-    layout: &Layout,
-    member: usize,
-    body: &'s Block,
-    var: &'s Name,
-    low: i64,
-    high: i64,
-    scope: &'s Scope<'s>,
-    table: &mut Table,
-)
-    ensures { table.new ≡ with_piece layout.now member
-        (loop var.now low high (sequence_work (sequence_of body.now))
-        (vars_of scope.now)) table.old }
-{
-    for number in low..high {
-        let turn = Scope::Turn {
-            name: var,
-            value: number,
-            outer: scope,
-        };
-        mark_block(layout, member, body, &turn, table);
-    }
-}
-
-// The same for the branches of a `par` inside the piece.
-#[cycle(mark)]
-fn mark_branches<'s>(
-    layout: &Layout,
-    member: usize,
-    branches: &'s Blocks,
-    scope: &'s Scope<'s>,
-    table: &mut Table,
-)
-    ensures { table.new ≡ with_piece layout.now member (branches_work (sequences_of branches.now)
-        (vars_of scope.now)) table.old }
-{
-    for branch in &branches.blocks {
-        mark_block(layout, member, branch, scope, table);
-    }
-}
-
-// The same for the phases of a `team` inside the piece.
-#[cycle(mark)]
-fn mark_phases<'s>(
-    layout: &Layout,
-    member: usize,
-    phases: &'s Blocks,
-    var: &'s Name,
-    low: i64,
-    high: i64,
-    scope: &'s Scope<'s>,
-    table: &mut Table,
-)
-    ensures { table.new ≡ with_piece layout.now member
-        (phases_work (sequences_of phases.now) var.now low high (vars_of scope.now)) table.old }
-{
-    for phase in &phases.blocks {
-        mark_loop(layout, member, phase, var, low, high, scope, table);
     }
 }

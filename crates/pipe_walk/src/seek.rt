@@ -1,205 +1,75 @@
-//! The walk that searches a crossing of two pieces of a site.
-ghost use Rattle.std.specs.Prelude.{◌≡◌};
-ghost use Rattle.std.specs.Option.{option_or};
-ghost use Rattle.array_tree.specs.Trees.{statement_of, sequence_of, sequences_of};
-ghost use Rattle.array_meaning.specs.Sites.{phase_rounds, statement_sites, sequence_sites, branches_sites, phases_sites, loop_sites};
-ghost use Rattle.array_eval.specs.Views.{vars_of};
-ghost use Rattle.pipe_walk.specs.FirstCrossing.{site_crossing, or_crossing};
+//! The search of a crossing of two pieces of a site.
+ghost use Rattle.pipe_walk.specs.FirstCrossing.{site_crossing};
 ghost use Rattle.pipe_walk.specs.Inside.Tables.{IsFor};
 
 use crate::crossing::crossing_in;
 use crate::fault::PipeFault;
 use crate::table::Table;
 use array_eval::{Layout, Scope};
-use array_tree::{Block, Blocks, Name, Stmt};
-use site_counts::sites_in_block;
+use array_tree::{Block, Blocks};
+use site_walk::{SiteSearch, Turns};
 use std::alloc::Global;
 
-// Keeps the crossing of a `team` itself, unless an earlier one was found.
-fn keep_team<'s>(
-    alloc: Global,
-    layout: &Layout,
-    line: u32,
-    phases: &'s Blocks,
-    var: &'s Name,
-    low: i64,
-    high: i64,
-    members: u64,
-    scope: &'s Scope<'s>,
-    table: &mut Table,
-    found: &mut Option<PipeFault>,
-)
-    requires table { IsFor layout.now table.old }
-    ensures table { IsFor layout.now table.new }
-    ensures found { found.new ≡ option_or found.old (site_crossing layout.now record {
-      line = line;
-      rounds = phase_rounds (sequences_of phases.now) var.now low high members (vars_of scope.now);
-    }) }
-{
-    if found.is_none() {
-        if let Some(cell) = crossing_in(
-            alloc, layout, phases, var, low, high, members, scope, table,
-        ) {
-            *found = Some(PipeFault::Crossing { line, cell });
-        }
-    }
+/// The search of the first site with a crossing.
+#[derive(Drop)]
+pub(crate) struct Crossings {
+    pub(crate) alloc: Global,
+    pub(crate) table: Table,
+    pub(crate) found: Option<PipeFault>,
 }
 
-/// Keeps the first crossing of the sites of a block, in the order of the plan, unless an earlier one was found.
-#[cycle(seek)]
-pub(crate) fn seek_block<'s>(
-    alloc: Global,
-    layout: &Layout,
-    block: &'s Block,
-    scope: &'s Scope<'s>,
-    table: &mut Table,
-    found: &mut Option<PipeFault>,
-)
-    requires table { IsFor layout.now table.old }
-    ensures table { IsFor layout.now table.new }
-    ensures found { found.new
-        ≡ or_crossing layout.now (sequence_sites (sequence_of block.now)
-        (vars_of scope.now)) found.old }
-{
-    for statement in &block.statements {
-        seek_statement(alloc, layout, statement, scope, table, found);
-    }
-}
+impl SiteSearch for Crossings {
+    type Fault = PipeFault;
 
-// The same for a statement.
-#[cycle(seek)]
-fn seek_statement<'s>(
-    alloc: Global,
-    layout: &Layout,
-    statement: &'s Stmt,
-    scope: &'s Scope<'s>,
-    table: &mut Table,
-    found: &mut Option<PipeFault>,
-)
-    requires table { IsFor layout.now table.old }
-    ensures table { IsFor layout.now table.new }
-    ensures found { found.new
-        ≡ or_crossing layout.now (statement_sites (statement_of statement.now)
-        (vars_of scope.now)) found.old }
-{
-    match statement {
-        Stmt::Assign { .. } => {}
-        Stmt::For {
-            var,
-            low,
-            high,
-            body,
-            ..
-        } => seek_loop(alloc, layout, body, var, *low, *high, scope, table, found),
-        Stmt::If {
-            then_block,
-            else_block,
-            ..
-        } => {
-            seek_block(alloc, layout, then_block, scope, table, found);
-            seek_block(alloc, layout, else_block, scope, table, found);
-        }
-        Stmt::Par { branches, .. } => seek_branches(alloc, layout, branches, scope, table, found),
-        Stmt::Team {
-            line,
-            var,
-            low,
-            high,
-            members,
-            phases,
-        } => {
-            keep_team(
-                alloc,
+    ghost fault_of = { site_crossing };
+
+    ghost found = { λ search. search.found };
+
+    ghost IsFor = { λ arrays search. IsFor arrays search.table };
+
+    // Why: the branches of a `par` have one phase, in which nothing crosses.
+    #[tactic(auto, using(crate::proofs::SiteLemmas::par_adds_nothing))]
+    fn keep_par<'s>(
+        &mut self,
+        _layout: &Layout,
+        _line: u32,
+        _branches: &'s Blocks,
+        _scope: &'s Scope<'s>,
+    ) {}
+
+    fn keep_team<'s>(
+        &mut self,
+        layout: &Layout,
+        line: u32,
+        phases: &'s Blocks,
+        turns: &Turns<'s>,
+        members: u64,
+        scope: &'s Scope<'s>,
+    ) {
+        if self.found.is_none() {
+            if let Some(cell) = crossing_in(
+                self.alloc,
                 layout,
-                *line,
                 phases,
-                var,
-                *low,
-                *high,
-                members.unsigned_abs(),
+                turns.var,
+                turns.low,
+                turns.high,
+                members,
                 scope,
-                table,
-                found,
-            );
-            seek_phases(alloc, layout, phases, var, *low, *high, scope, table, found);
+                &mut self.table,
+            ) {
+                self.found = Some(PipeFault::Crossing { line, cell });
+            }
         }
     }
-}
 
-// The same for a block for each number from low to before high. It passes over a loop that enters no site, for any number of
-// turns.
-#[cycle(seek)]
-fn seek_loop<'s>(
-    alloc: Global,
-    layout: &Layout,
-    body: &'s Block,
-    var: &'s Name,
-    low: i64,
-    high: i64,
-    scope: &'s Scope<'s>,
-    table: &mut Table,
-    found: &mut Option<PipeFault>,
-)
-    requires table { IsFor layout.now table.old }
-    ensures table { IsFor layout.now table.new }
-    ensures found { found.new
-        ≡ or_crossing layout.now (loop_sites var.now low high (sequence_sites (sequence_of body.now))
-        (vars_of scope.now)) found.old }
-{
-    if sites_in_block(body) == 0 {
-        return;
-    }
-    for number in low..high {
-        let turn = Scope::Turn {
-            name: var,
-            value: number,
-            outer: scope,
-        };
-        seek_block(alloc, layout, body, &turn, table, found);
-    }
-}
-
-// The same for the branches of a `par`.
-#[cycle(seek)]
-fn seek_branches<'s>(
-    alloc: Global,
-    layout: &Layout,
-    branches: &'s Blocks,
-    scope: &'s Scope<'s>,
-    table: &mut Table,
-    found: &mut Option<PipeFault>,
-)
-    requires table { IsFor layout.now table.old }
-    ensures table { IsFor layout.now table.new }
-    ensures found { found.new
-        ≡ or_crossing layout.now (branches_sites (sequences_of branches.now)
-        (vars_of scope.now)) found.old }
-{
-    for branch in &branches.blocks {
-        seek_block(alloc, layout, branch, scope, table, found);
-    }
-}
-
-// The same for the phases of a `team`.
-#[cycle(seek)]
-fn seek_phases<'s>(
-    alloc: Global,
-    layout: &Layout,
-    phases: &'s Blocks,
-    var: &'s Name,
-    low: i64,
-    high: i64,
-    scope: &'s Scope<'s>,
-    table: &mut Table,
-    found: &mut Option<PipeFault>,
-)
-    requires table { IsFor layout.now table.old }
-    ensures table { IsFor layout.now table.new }
-    ensures found { found.new
-        ≡ or_crossing layout.now (phases_sites (sequences_of phases.now) var.now low high
-        (vars_of scope.now)) found.old }
-{
-    for phase in &phases.blocks {
-        seek_loop(alloc, layout, phase, var, low, high, scope, table, found);
+    fn is_settled<'s>(
+        &self,
+        _layout: &Layout,
+        _body: &'s Block,
+        _turns: &Turns<'s>,
+        _scope: &'s Scope<'s>,
+    ) -> bool {
+        false
     }
 }

@@ -18,12 +18,14 @@ use Rattle.array_meaning.proofs.InsideLemmas.{names_in, names_in_of, array_insid
 use Rattle.array_meaning.proofs.KnownLemmas.{sequence_known}
 use Rattle.array_meaning.proofs.FrameLemmas.{walk_followed_by}
 use Rattle.array_meaning.proofs.MemberLemmas.{members_loop}
-use Rattle.array_meaning.proofs.OverlapLemmas.{apart_of_clear, clear_of_apart}
+use Rattle.array_meaning.proofs.OverlapLemmas.{apart_of_clear}
 use Rattle.site_walk.specs.declared.fault.WalkFault.{WalkFault}
 use Rattle.std.specs.Option.{option_or}
 use Rattle.site_walk.specs.Outside.{out_of_range_of}
-use Rattle.site_walk.specs.FirstOverlap.{cell_fault, rounds_fault, first_overlap, overlap_of, walk_fault_of}
+use Rattle.site_walk.specs.FirstOverlap.{cell_fault, rounds_fault, site_overlap, overlap_of, walk_fault_of}
+use Rattle.site_walk.specs.Firsts.{first_of}
 use Rattle.site_walk.proofs.OutsideLemmas.{inside_of_none}
+use Rattle.site_walk.proofs.SettledLemmas.{sites_none}
 
 -- ---- a property of each visit of a program holds of each visit of each piece
 
@@ -185,10 +187,6 @@ none_below f i (suc k) h c low high = cases (f i) refl h (λ g. none_below f (i 
         here true same = ap f (let at : c ≡ i = grind (arith, nat_tests) in at) ∙ e
         here false other = rest h (let more : i + 1 ≤ c = grind (arith, nat_tests) in more) (omega arith)
 
-all_none : (f : ℕ → Bool) (i k : ℕ) → ((c : ℕ) → f c ≡ false) → first_from f i k ≡ None
-all_none f i zero h = refl
-all_none f i (suc k) h = ap (λ b. cond b (Some i) (first_from f (i + 1) k)) (h i) ∙ all_none f (i + 1) k h
-
 clear_round : (arrays : Arrays) (ps : List Steps) → EachPiece arrays (IsFit arrays) ps → overlap arrays (cells_of arrays) ps ≡ None → (c : ℕ) → overlaps arrays false false ps c ≡ false
 clear_round arrays ps fit none c = cases (nat_lt c (cells_of arrays)) refl
   where
@@ -210,24 +208,11 @@ rounds_apart arrays line (r ∷ rs) fit h =
     let parts = no_fault (cell_fault line (overlap arrays (cells_of arrays) r)) (rounds_fault arrays line rs) h in
     (apart_of_clear arrays r (clear_round arrays r fit.0 (no_cell line (overlap arrays (cells_of arrays) r) parts.0)), rounds_apart arrays line rs fit.1 parts.1)
 
-sites_apart : (arrays : Arrays) (sites : List Site) → EachSite arrays (IsFit arrays) sites → first_overlap arrays sites ≡ None → AreSitesApart arrays sites
+sites_apart : (arrays : Arrays) (sites : List Site) → EachSite arrays (IsFit arrays) sites → first_of (site_overlap arrays) sites ≡ None → AreSitesApart arrays sites
 sites_apart arrays [] fit h = tt
 sites_apart arrays (s ∷ sites) fit h =
-    let parts = no_fault (rounds_fault arrays s.line s.rounds) (first_overlap arrays sites) h in
+    let parts = no_fault (rounds_fault arrays s.line s.rounds) (first_of (site_overlap arrays) sites) h in
     (rounds_apart arrays s.line s.rounds fit.0 parts.0, sites_apart arrays sites fit.1 parts.1)
-
--- ---- pieces that are apart don't overlap
-
-rounds_clear : (arrays : Arrays) (line : ℕ) (rs : List (List Steps)) → AreRoundsApart arrays rs → rounds_fault arrays line rs ≡ None
-rounds_clear arrays line [] h = refl
-rounds_clear arrays line (r ∷ rs) h =
-    ap (λ o. option_or (cell_fault line o) (rounds_fault arrays line rs)) (all_none (overlaps arrays false false r) 0 (cells_of arrays) (clear_of_apart arrays r h.0))
-    ∙ rounds_clear arrays line rs h.1
-
-sites_clear : (arrays : Arrays) (sites : List Site) → AreSitesApart arrays sites → first_overlap arrays sites ≡ None
-sites_clear arrays [] h = refl
-sites_clear arrays (s ∷ sites) h =
-    ap (λ o. option_or o (first_overlap arrays sites)) (rounds_clear arrays s.line s.rounds h.0) ∙ sites_clear arrays sites h.1
 
 -- ---- the sites of a program
 
@@ -248,7 +233,7 @@ apart_of_none program known inside h =
     sites_apart arrays (sequence_sites program.body []) (of_sequence arrays (IsFit arrays) program.body [] (fit_visits arrays visits named inside)) h
 
 pub none_of_apart : (program : ProgramTree) → HasApartSites program → overlap_of program ≡ None
-none_of_apart program h = sites_clear (arrays_of program.arrays) (sequence_sites program.body []) h
+none_of_apart program h = sites_none (arrays_of program.arrays) (sequence_sites program.body []) h
 
 -- ---- if the walk finds nothing, both conditions hold
 

@@ -1,5 +1,7 @@
 pub mod OutsideLemmas
-pub mod MarkLemmas
+pub mod VisitLemmas
+pub mod FirstLemmas
+pub mod SeekLemmas
 pub mod RoundLemmas
 pub mod TouchedLemmas
 pub mod NumberLemmas

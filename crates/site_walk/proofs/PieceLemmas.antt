@@ -1,6 +1,7 @@
 -- The table's marks of a cell, piece by piece: the marks clash iff two pieces overlap.
 use Rattle.std.proofs.Common.{◌≡◌, ℕ, zero, suc, ◌+◌, ◌-◌, ◌<◌, ◌≤◌, cond, Bool, true, false, List, [], ◌∷◌, length, replicate, Some, None, refl, sym, ap, ◌∙◌, arith}
 use Rattle.std.specs.Prelude.{nat_eq, ◌&&◌, ◌||◌, not}
+use Rattle.std.specs.List.{fold}
 use Rattle.std.proofs.lemmas.Bool.{false≢true}
 use Rattle.std.proofs.lemmas.List.{get_or-replicate, length-replicate}
 use Rattle.array_meaning.specs.Stores.{Arrays, cells_of}
@@ -13,7 +14,7 @@ use Rattle.site_walk.specs.declared.touched.Touched.{Touched}
 use Rattle.site_walk.specs.declared.table.Table.{Table}
 use Rattle.site_walk.specs.Inside.Touched.{joined_pieces, joined, clashes, are_several, touched_at, untouched}
 use Rattle.site_walk.specs.Inside.Numbers.{array_at}
-use Rattle.site_walk.specs.Inside.Marks.{with_touch, with_visits, with_piece, with_pieces, touch_of, done_at, HasPlaces, cleared}
+use Rattle.site_walk.specs.Inside.Marks.{with_touch, with_visit, with_piece, with_pieces, touch_of, done_at, HasPlaces, cleared}
 use Rattle.site_walk.proofs.TouchedLemmas.{joined_assoc, one_piece_twice, older_test}
 use Rattle.site_walk.proofs.NumberLemmas.{array_there}
 use Rattle.site_walk.proofs.ClashLemmas.{touch_if, done_with_touch, places_stay, IsClear, clear_stays}
@@ -40,7 +41,7 @@ visit_first p true false false true s = twice p false false s
 visit_first p true false false false s = refl
 
 pub done_with_visits : (arrays : Arrays) (p : ℕ) (vs : List Visit) (t : Table) (c : ℕ) → HasPlaces arrays t → c < cells_of arrays →
-    done_at arrays (with_visits arrays p vs t) c ≡ after_piece p (changed arrays vs c) (read arrays vs c) (done_at arrays t c)
+    done_at arrays (fold (with_visit arrays p) t vs) c ≡ after_piece p (changed arrays vs c) (read arrays vs c) (done_at arrays t c)
 done_with_visits arrays p [] t c places small = refl
 done_with_visits arrays p (v ∷ vs) t c places small =
     let touch = touch_of p v.writes in
@@ -48,14 +49,14 @@ done_with_visits arrays p (v ∷ vs) t c places small =
     ∙ ap (after_piece p (changed arrays vs c) (read arrays vs c)) (done_with_touch arrays touch v.array v.index t c places small)
     ∙ visit_first p (covers arrays v.array v.index c) v.writes (changed arrays vs c) (read arrays vs c) (done_at arrays t c)
 
-pub visits_keep_places : (arrays : Arrays) (p : ℕ) (vs : List Visit) (t : Table) → HasPlaces arrays t → HasPlaces arrays (with_visits arrays p vs t)
+pub visits_keep_places : (arrays : Arrays) (p : ℕ) (vs : List Visit) (t : Table) → HasPlaces arrays t → HasPlaces arrays (fold (with_visit arrays p) t vs)
 visits_keep_places arrays p [] t places = places
 visits_keep_places arrays p (v ∷ vs) t places =
     let touch = touch_of p v.writes in
     visits_keep_places arrays p vs (with_touch arrays touch v.array v.index t) (places_stay arrays touch v.array v.index t places)
 
 visits_stay_clear : (arrays : Arrays) (p : ℕ) (vs : List Visit) (t : Table) (c : ℕ) → HasPlaces arrays t → c < cells_of arrays →
-    (t.suspect ≡ false → IsClear arrays t c) → (with_visits arrays p vs t).suspect ≡ false → IsClear arrays (with_visits arrays p vs t) c
+    (t.suspect ≡ false → IsClear arrays t c) → (fold (with_visit arrays p) t vs).suspect ≡ false → IsClear arrays (fold (with_visit arrays p) t vs) c
 visits_stay_clear arrays p [] t c places small before h = before h
 visits_stay_clear arrays p (v ∷ vs) t c places small before h =
     let touch = touch_of p v.writes in

@@ -8,6 +8,7 @@ use Rattle.array_meaning.specs.Sites.{Site, sequence_sites}
 use Rattle.site_walk.specs.declared.fault.WalkFault.{WalkFault}
 use Rattle.site_walk.specs.declared.fault.WalkFault.TheVariants.{Overlap}
 use Rattle.std.specs.Option.{option_or}
+use Rattle.site_walk.specs.Firsts.{first_of}
 use Rattle.site_walk.specs.Outside.{out_of_range_of}
 
 -- The fault of an overlap on a cell, with its construct's line.
@@ -22,16 +23,14 @@ rounds_fault arrays line (round ∷ more) =
     option_or (cell_fault line (overlap arrays (cells_of arrays) round))
     (rounds_fault arrays line more)
 
--- The fault of the first of the sites with an overlap.
-abbrev pub first_overlap : Arrays → List Site → Option WalkFault
-first_overlap arrays [] = None
-first_overlap arrays (site ∷ more) =
-    option_or (rounds_fault arrays site.line site.rounds) (first_overlap arrays more)
+-- The fault of a site.
+abbrev pub site_overlap : Arrays → Site → Option WalkFault
+site_overlap arrays site = rounds_fault arrays site.line site.rounds
 
 -- The first overlap of a program's sites, in the order of its plan: the construct's line, and the least cell (in a `team`, of
 -- its first phase with an overlap).
 abbrev pub overlap_of : ProgramTree → Option WalkFault
-overlap_of program = first_overlap (arrays_of program.arrays) (sequence_sites program.body [])
+overlap_of program = first_of (site_overlap (arrays_of program.arrays)) (sequence_sites program.body [])
 
 -- The result of the walk: an index outside its array, or else an overlap.
 abbrev pub walk_fault_of : ProgramTree → Option WalkFault

@@ -1,3 +1,5 @@
+pub mod Visits
+pub mod Firsts
 pub mod Outside
 pub mod FirstOverlap
 pub mod Laws

@@ -13,10 +13,16 @@ mod mark;
 mod overlap;
 mod places;
 mod round;
+mod sites;
 mod table;
 mod touched;
+mod turns;
+mod visits;
 mod walk;
 
 pub use fault::WalkFault;
 pub use laws::{outsides_are_found, overlaps_are_found};
+pub use sites::{SiteSearch, seek_block};
+pub use turns::Turns;
+pub use visits::{Access, Visits, visit_block, visit_loop, visit_statement};
 pub use walk::{walk_indices, walk_program};

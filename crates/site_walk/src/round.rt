@@ -11,9 +11,11 @@ ghost use Rattle.array_eval.specs.Views.{vars_of};
 ghost use Rattle.site_walk.specs.Inside.Touched.{clashes};
 ghost use Rattle.site_walk.specs.Inside.Marks.{with_pieces, done_at, HasPlaces};
 
-use crate::mark::{mark_block, mark_loop};
+use crate::mark::Piece;
 use crate::places::number_at;
 use crate::table::Table;
+use crate::turns::Turns;
+use crate::visits::{visit_block, visit_loop};
 use array_eval::{Layout, Scope, span, start_of_member};
 use array_tree::{Block, Blocks, Name};
 use std::alloc::Global;
@@ -63,7 +65,7 @@ fn mark_pieces<'s>(layout: &Layout, branches: &'s Blocks, scope: &'s Scope<'s>, 
         (vars_of scope.now)) table.old }
 {
     for (piece, branch) in branches.blocks.iter().enumerate() {
-        mark_block(layout, piece, branch, scope, table);
+        visit_block(&Piece(piece), layout, branch, scope, table);
     }
 }
 
@@ -111,18 +113,12 @@ fn mark_members<'s>(
         (vars_of scope.now)) table.old }
 {
     for member in 0..members {
-        let start = start_of_member(low, high, members, member);
-        let end = start_of_member(low, high, members, member + 1);
-        mark_loop(
-            layout,
-            member as usize,
-            phase,
+        let part = Turns {
             var,
-            start,
-            end,
-            scope,
-            table,
-        );
+            low: start_of_member(low, high, members, member),
+            high: start_of_member(low, high, members, member + 1),
+        };
+        visit_loop(&Piece(member as usize), layout, phase, &part, scope, table);
     }
 }
 

@@ -9,7 +9,8 @@ ghost use Rattle.site_walk.specs.FirstOverlap.{walk_fault_of};
 
 use crate::fault::WalkFault;
 use crate::inside::keep_body;
-use crate::overlap::seek_block;
+use crate::overlap::Overlaps;
+use crate::sites::seek_block;
 use crate::table::Table;
 use array_eval::{Layout, Scope};
 use array_tree::Program;
@@ -45,20 +46,16 @@ pub fn walk_program(alloc: Global, program: &Program) -> Result<(), WalkFault>
 {
     let layout = layout_of(alloc, program)?;
     indices_in(alloc, &layout, program)?;
-    let mut found = None;
-    let mut table = match Table::new(alloc, &layout) {
-        Ok(table) => table,
-        Err(_) => return Err(WalkFault::Memory),
+    let Ok(table) = Table::new(alloc, &layout) else {
+        return Err(WalkFault::Memory);
     };
-    seek_block(
+    let mut search = Overlaps {
         alloc,
-        &layout,
-        &program.body,
-        &Scope::Outermost,
-        &mut table,
-        &mut found,
-    );
-    match found {
+        table,
+        found: None,
+    };
+    seek_block(&mut search, &layout, &program.body, &Scope::Outermost);
+    match search.found {
         Some(fault) => Err(fault),
         None => Ok(()),
     }

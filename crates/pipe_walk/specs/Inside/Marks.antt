@@ -3,8 +3,9 @@
 use Rattle.std.specs.Prelude.{ℕ, ◌+◌, Bool, false, List, [], ◌∷◌, Option, Some, None, ℤ}
 use Rattle.array_meaning.specs.Stores.{Arrays, cell_of}
 use Rattle.array_meaning.specs.Steps.{Steps}
-use Rattle.array_meaning.specs.Touch.{Visit, walk}
+use Rattle.array_meaning.specs.Touch.{Visit}
 use Rattle.array_eval.specs.Layouts.{number_of}
+use Rattle.site_walk.specs.Visits.{after}
 use Rattle.pipe_walk.specs.Inside.Members.{touch_by}
 use Rattle.pipe_walk.specs.Inside.Tables.{TableParts, added}
 
@@ -15,15 +16,13 @@ with_touch arrays member writes array None table =
 with_touch arrays member writes array (Some index) table =
     record table { cells = added (cell_of arrays array false index) (touch_by member writes) table.cells }
 
--- The table with the visits of a member.
-abbrev pub with_visits : Arrays → ℕ → List Visit → TableParts → TableParts
-with_visits arrays member [] table = table
-with_visits arrays member (v ∷ more) table =
-    with_visits arrays member more (with_touch arrays member v.writes v.array v.index table)
+-- The table with a visit of a member.
+abbrev pub with_visit : Arrays → ℕ → TableParts → Visit → TableParts
+with_visit arrays member table v = with_touch arrays member v.writes v.array v.index table
 
 -- The table with all that a member does.
 abbrev pub with_piece : Arrays → ℕ → Steps → TableParts → TableParts
-with_piece arrays member steps table = with_visits arrays member (walk arrays steps) table
+with_piece arrays member steps table = after (with_visit arrays member) arrays steps table
 
 -- The table with all that members do, numbered from one on.
 abbrev pub with_pieces : Arrays → ℕ → List Steps → TableParts → TableParts

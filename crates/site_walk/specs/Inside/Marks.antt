@@ -3,8 +3,9 @@
 use Rattle.std.specs.Prelude.{◌≡◌, ℕ, ◌+◌, cond, Bool, false, not, ◌||◌, List, [], ◌∷◌, length, replicate, Option, Some, None, ℤ, slice_set}
 use Rattle.array_meaning.specs.Stores.{Arrays, length_of, cell_of, cells_of}
 use Rattle.array_meaning.specs.Steps.{Steps}
-use Rattle.array_meaning.specs.Touch.{Visit, walk}
+use Rattle.array_meaning.specs.Touch.{Visit}
 use Rattle.array_meaning.specs.Accepted.{is_inside}
+use Rattle.site_walk.specs.Visits.{after}
 use Rattle.site_walk.specs.declared.touched.Pieces.TheVariants.{One}
 use Rattle.site_walk.specs.declared.touched.Touched.{Touched}
 use Rattle.site_walk.specs.declared.table.Table.{Table}
@@ -81,16 +82,13 @@ with_touch arrays touch array (Some index) table =
 abbrev pub touch_of : ℕ → Bool → Touched
 touch_of piece writes = record { by = One piece; written = writes }
 
--- The table with the visits of a piece.
-abbrev pub with_visits : Arrays → ℕ → List Visit → Table → Table
-with_visits arrays piece [] table = table
-with_visits arrays piece (v ∷ more) table =
-    with_visits arrays piece more
-    (with_touch arrays (touch_of piece v.writes) v.array v.index table)
+-- The table with a visit of a piece.
+abbrev pub with_visit : Arrays → ℕ → Table → Visit → Table
+with_visit arrays piece table v = with_touch arrays (touch_of piece v.writes) v.array v.index table
 
 -- The table with all that a piece does.
 abbrev pub with_piece : Arrays → ℕ → Steps → Table → Table
-with_piece arrays piece steps table = with_visits arrays piece (walk arrays steps) table
+with_piece arrays piece steps table = after (with_visit arrays piece) arrays steps table
 
 -- The table with all that pieces do, numbered from one on.
 abbrev pub with_pieces : Arrays → ℕ → List Steps → Table → Table

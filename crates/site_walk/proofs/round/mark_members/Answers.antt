@@ -18,14 +18,14 @@ loop-member-preserved c =
     let members = c.args.members in
     let body = sequence_work (sequence_of c.args.phase.now) in
     let j = c.loop-member.member in
-    let from = c.start_of_member-start.result in
-    let to = c.start_of_member-end.result in
+    let from = c.start_of_member.result in
+    let to = c.start_of_member-in-loop-member.result in
     let starts : to_z w64 (of_z w64 from) ≡ start_of low high members j
-    = to_z-of_z w64 from (record { sfits = c.start_of_member-start.type_inv }) ∙ c.start_of_member-start.ensures in
+    = to_z-of_z w64 from (record { sfits = c.start_of_member.type_inv }) ∙ c.start_of_member.ensures in
     let ends : to_z w64 (of_z w64 to) ≡ start_of low high members (j + 1)
-    = to_z-of_z w64 to (record { sfits = c.start_of_member-end.type_inv }) ∙ c.start_of_member-end.ensures in
+    = to_z-of_z w64 to (record { sfits = c.start_of_member-in-loop-member.type_inv }) ∙ c.start_of_member-in-loop-member.ensures in
     ap (with_pieces arrays (j + 1) (member_works var low high members body (j + 1) (members - (j + 1)) vars))
-    (c.mark_loop.ensures
+    (c.visit_loop.ensures
     ∙ ap (λ x. with_piece arrays j (loop var x (to_z w64 (of_z w64 to)) body vars) c.loop-member.table) starts
     ∙ ap (λ y. with_piece arrays j (loop var (start_of low high members j) y body vars) c.loop-member.table) ends)
     ∙ sym (member_next arrays var low high members body j vars c.loop-member.table c.loop-member-test.true)
