@@ -10,7 +10,7 @@ use Rattle.array_tree.specs.declared.tree.ArrayDecl.{ArrayDecl}
 use Rattle.array_tree.specs.Equal.{name_eq}
 use Rattle.array_meaning.specs.Stores.{Arrays, HaveCells, AreSized, arrays_of, base_of, length_of, cells_of}
 use Rattle.array_eval.specs.declared.layout.First.{First}
-use Rattle.array_eval.specs.Layouts.{number_of, slot_of, first_in, cells_before, at_slot, AreFirsts, IsLaidOut}
+use Rattle.array_eval.specs.Layouts.{number_of, slot_of, first_in, cells_before, at_slot, AreFirsts, BeginsAt}
 
 -- ---- the arrays before the first one of a name's slot have other names
 
@@ -160,6 +160,10 @@ dropped ds zero = refl
 dropped [] (suc n) = refl
 dropped (d ∷ ds) (suc n) = dropped ds n
 
+length-arrays : (ds : List ArrayDecl) → length (arrays_of (map declaration_of ds)) ≡ length ds
+length-arrays [] = refl
+length-arrays (d ∷ ds) = let more = length-arrays ds in omega arith
+
 first_is_start : (ds : List ArrayDecl) (name : List ℕ) → AreSized (arrays_of (map declaration_of ds)) →
     IsStart ds name (first_in (slot_of name) (arrays_of (map declaration_of ds))) (cells_before (slot_of name) (arrays_of (map declaration_of ds)))
 first_is_start ds name sized =
@@ -173,32 +177,66 @@ first_is_start ds name sized =
       whole = (let behind = cells_behind slot arrays in let same = ap cells_of (dropped ds n) in let small = sized.whole in omega arith);
       found = subst found-in (dropped ds n) (found_from_first arrays name);
     }
-  where
-    length-arrays : (ds : List ArrayDecl) → length (arrays_of (map declaration_of ds)) ≡ length ds
-    length-arrays [] = refl
-    length-arrays (d ∷ ds) = let more = length-arrays ds in omega arith
 
 slot_small : (name : List ℕ) → slot_of name < 256
 slot_small name = omega arith
 
-pub start_of_name : (ds : List ArrayDecl) (firsts : List First) (cells : ℕ) (name : List ℕ) → IsLaidOut (arrays_of (map declaration_of ds)) firsts cells →
-    IsStart ds name (at_slot firsts (slot_of name)).number (at_slot firsts (slot_of name)).base
-start_of_name ds firsts cells name laid =
+begins_at : (ds : List ArrayDecl) (name : List ℕ) (first : First) → IsStart ds name first.number first.base → BeginsAt (arrays_of (map declaration_of ds)) name first
+begins_at ds name first start =
     let arrays = arrays_of (map declaration_of ds) in
-    let slot = slot_of name in
-    let counted : (at_slot firsts slot).number ≡ first_in slot arrays = (let e = laid.right.number slot (slot_small name) in omega arith) in
-    let based : (at_slot firsts slot).base ≡ cells_before slot arrays = (let e = laid.right.base slot (slot_small name) in omega arith) in
-    let at-count : ℕ → Type 0 = λ n. IsStart ds name n (at_slot firsts slot).base in
-    let at-base : ℕ → Type 0 = λ b. IsStart ds name (first_in slot arrays) b in
-    subst at-count (sym counted) (subst at-base (sym based) (first_is_start ds name laid.sized))
+    let same : arrays_of (map declaration_of (drop first.number ds)) ≡ drop first.number arrays = sym (dropped ds first.number) in
+    record {
+      within = (let inside = start.within in let all = length-arrays ds in omega arith);
+      each = subst HaveCells same start.each;
+      whole = (let e = ap cells_of same in let small = start.whole in omega arith);
+      number = (let e = ap (λ rest. number_of rest name) same in let found = start.found.number in omega arith);
+      base = (let e = ap (λ rest. base_of rest name) same in let found = start.found.base in omega arith);
+      length = sym (ap (λ rest. length_of rest name) same) ∙ start.found.length;
+    }
 
--- The search in a layout begins at what was read of the slot.
-pub start_at : (ds : List ArrayDecl) (firsts : List First) (cells : ℕ) (name : List ℕ) (slot : ℕ) (first : First) →
-    IsLaidOut (arrays_of (map declaration_of ds)) firsts cells → slot ≡ slot_of name → first ≡ get_or firsts slot first →
-    IsStart ds name first.number first.base
-start_at ds firsts cells name slot first laid at read =
-    let at-first : First → Type 0 = λ f. IsStart ds name f.number f.base in
-    let small : slot < length firsts = (let many = laid.right.slots in let inside = slot_small name in omega arith) in
-    let same : at_slot firsts (slot_of name) ≡ first =
+-- A search may begin at the first array.
+pub begins_first : (arrays : Arrays) (name : List ℕ) (first : First) → AreSized arrays → first.number ≡ 0 → first.base ≡ 0 → BeginsAt arrays name first
+begins_first arrays name first sized number base =
+    let same : drop first.number arrays ≡ arrays = ap (λ n. drop n arrays) number in
+    record {
+      within = omega arith;
+      each = subst HaveCells (sym same) sized.each;
+      whole = (let e = ap cells_of same in let small = sized.whole in omega arith);
+      number = (let e = ap (λ rest. number_of rest name) same in omega arith);
+      base = (let e = ap (λ rest. base_of rest name) same in omega arith);
+      length = ap (λ rest. length_of rest name) same;
+    }
+
+-- A search may begin at the first array of the name's slot, which was read from the table.
+pub begins_slot : (ds : List ArrayDecl) (firsts : List First) (cells : ℕ) (name : List ℕ) (slot : ℕ) (first : First) →
+    AreSized (arrays_of (map declaration_of ds)) → AreFirsts 0 0 (arrays_of (map declaration_of ds)) firsts → slot ≡ slot_of name → first ≡ get_or firsts slot first →
+    BeginsAt (arrays_of (map declaration_of ds)) name first
+begins_slot ds firsts cells name slot first sized right at read =
+    let arrays = arrays_of (map declaration_of ds) in
+    let own = slot_of name in
+    let counted : (at_slot firsts own).number ≡ first_in own arrays = (let e = right.number own (slot_small name) in omega arith) in
+    let based : (at_slot firsts own).base ≡ cells_before own arrays = (let e = right.base own (slot_small name) in omega arith) in
+    let small : slot < length firsts = (let many = right.slots in let inside = slot_small name in omega arith) in
+    let same : at_slot firsts own ≡ first =
     ap (at_slot firsts) (sym at) ∙ get_or_default firsts slot (record { number = 0; base = 0 }) first small ∙ sym read in
-    subst at-first same (start_of_name ds firsts cells name laid)
+    let at-count : ℕ → Type 0 = λ n. IsStart ds name n (at_slot firsts own).base in
+    let at-base : ℕ → Type 0 = λ b. IsStart ds name (first_in own arrays) b in
+    subst (λ (f : First). BeginsAt arrays name f) same
+    (begins_at ds name (at_slot firsts own) (subst at-count (sym counted) (subst at-base (sym based) (first_is_start ds name sized))))
+
+-- ---- the search in a layout's own arrays
+
+-- The position where a search may begin, by the declarations.
+pub start_of : (ds : List ArrayDecl) (name : List ℕ) (first : First) → BeginsAt (arrays_of (map declaration_of ds)) name first → IsStart ds name first.number first.base
+start_of ds name first begins =
+    let same : drop first.number (arrays_of (map declaration_of ds)) ≡ arrays_of (map declaration_of (drop first.number ds)) = dropped ds first.number in
+    record {
+      within = (let inside = begins.within in let all = length-arrays ds in omega arith);
+      each = subst HaveCells same begins.each;
+      whole = (let e = ap cells_of same in let small = begins.whole in omega arith);
+      found = record {
+        number = (let e = ap (λ rest. number_of rest name) same in let found = begins.number in omega arith);
+        base = (let e = ap (λ rest. base_of rest name) same in let found = begins.base in omega arith);
+        length = sym (ap (λ rest. length_of rest name) same) ∙ begins.length;
+      };
+    }

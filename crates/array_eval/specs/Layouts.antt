@@ -1,8 +1,9 @@
 -- The positions of arrays, and the slots in which a name is searched.
-use Rattle.std.specs.Prelude.{◌≡◌, ℕ, suc, ◌+◌, ◌%◌, ◌<◌, cond, nat_eq, List, [], ◌∷◌, length, slice_index_or}
+use Rattle.std.specs.Prelude.{◌≡◌, ◌⊎◌, ℕ, suc, ◌+◌, ◌%◌, ◌<◌, ◌≤◌, cond, nat_eq, List, [], ◌∷◌, length, drop, slice_index_or}
 use Rattle.array_tree.specs.Digest.{digest_of}
 use Rattle.array_tree.specs.Equal.{name_eq}
-use Rattle.array_meaning.specs.Stores.{Arrays, AreSized, cells_of}
+use Rattle.array_meaning.specs.Bounds.{most_cells}
+use Rattle.array_meaning.specs.Stores.{Arrays, AreSized, HaveCells, base_of, length_of, cells_of}
 use Rattle.array_eval.specs.declared.layout.First.{First}
 
 -- The index of the array with a name; the number of arrays if there is none.
@@ -40,8 +41,17 @@ pub record AreFirsts (count cells : ℕ) (arrays : Arrays) (firsts : List First)
   pub base : (slot : ℕ) → slot < slot_count
       → (at_slot firsts slot).base ≡ cells + cells_before slot arrays
 
--- The invariant of a layout: its arrays have cells, and each slot has the first array of that slot.
+-- The search for a name may begin at this array: no array before it has the name.
+pub record BeginsAt (arrays : Arrays) (name : List ℕ) (first : First) : Type 0 where
+  pub within : first.number ≤ length arrays
+  pub each : HaveCells (drop first.number arrays)
+  pub whole : first.base + cells_of (drop first.number arrays) ≤ most_cells
+  pub number : first.number + number_of (drop first.number arrays) name ≡ number_of arrays name
+  pub base : first.base + base_of (drop first.number arrays) name ≡ base_of arrays name
+  pub length : length_of (drop first.number arrays) name ≡ length_of arrays name
+
+-- The invariant of a layout: its arrays have cells, and each slot has the first array of that slot, unless there are no slots.
 pub record IsLaidOut (arrays : Arrays) (firsts : List First) (cells : ℕ) : Type 0 where
   pub sized : AreSized arrays
-  pub right : AreFirsts 0 0 arrays firsts
+  pub right : (firsts ≡ []) ⊎ AreFirsts 0 0 arrays firsts
   pub whole : cells ≡ cells_of arrays

@@ -1,9 +1,9 @@
 //! The positions of a program's arrays.
-ghost use Rattle.std.specs.Prelude.{◌≡◌, ◌≤◌, ◌<◌, ◌+◌, IfOk, length, map, drop, replicate, unsigned_abs};
+ghost use Rattle.std.specs.Prelude.{◌≡◌, ◌⊎◌, ◌≤◌, ◌<◌, ◌+◌, IfOk, [], length, map, drop, replicate, unsigned_abs};
 ghost use Rattle.array_tree.specs.Trees.{declarations_of, declaration_of};
 ghost use Rattle.array_meaning.specs.Bounds.{most_cells};
 ghost use Rattle.array_meaning.specs.Stores.{arrays_of, AreSized, HaveCells, base_of, length_of, cells_of};
-ghost use Rattle.array_eval.specs.Layouts.{slot_count, number_of, slot_of, AreFirsts};
+ghost use Rattle.array_eval.specs.Layouts.{slot_count, number_of, slot_of, AreFirsts, BeginsAt};
 
 use crate::cells::count_cells;
 use array_tree::{ArrayDecl, Arrays, Name};
@@ -12,6 +12,9 @@ use std::marker::Model;
 
 /// The number of slots.
 const SLOTS: usize = 256;
+
+/// So many arrays are searched one by one without a table. Why: each job makes its table, and few jobs have much to search.
+const FEW: usize = 4;
 
 /// The position of an array: its index among the arrays, its first cell, and its number of cells.
 #[derive(Clone, Copy, Debug, Drop)]
@@ -28,8 +31,9 @@ struct First {
     base: u16,
 }
 
-/// The arrays of a program, and the first array of each slot of digests. After the slot's first array, the others are searched
-/// one by one, since names of one slot may differ. So with names chosen to collide, a search compares with each declaration.
+/// The arrays of a program, and the first array of each slot of digests, if there are more than four arrays. After the slot's
+/// first array, the others are searched one by one, since names of one slot may differ. So with names chosen to collide, a
+/// search compares with each declaration.
 ///
 /// The table has 1 KB and is made in one pass. Why each job makes its own: a job's public fields have the arrays alone.
 ///
@@ -38,6 +42,7 @@ struct First {
 #[derive(Debug, Drop)]
 pub struct Layout<'p> {
     arrays: &'p Arrays,
+    // The first array of each slot, or nothing if there are few arrays.
     firsts: Vec<First>,
     cells: usize,
 }
@@ -69,18 +74,13 @@ impl<'p> Layout<'p> {
     ///
     /// # Memory
     ///
-    /// It allocates 1 KB.
+    /// It allocates 1 KB if there are more than four arrays.
     pub fn new(alloc: Global, arrays: &'p Arrays) -> Result<Layout<'p>, AllocError>
         requires { AreSized (arrays_of (declarations_of arrays.now)) }
         ensures { IfOk result (λ layout. layout ≡ arrays_of (declarations_of arrays.now)) }
     {
         let cells = count_cells(arrays);
-        let none = First {
-            number: arrays.declarations.len() as u16,
-            base: cells as u16,
-        };
-        let mut firsts = table_of(alloc, none)?;
-        put_firsts(&arrays.declarations, cells as u16, &mut firsts);
+        let firsts = firsts_of(alloc, &arrays.declarations, cells as u16)?;
         Ok(Layout {
             arrays,
             firsts,
@@ -97,9 +97,19 @@ impl<'p> Layout<'p> {
         ensures length_small { result.length ≤ most_cells }
         ensures some { 0 < result.length }
     {
-        let first = self.firsts[slot(name)];
+        let first = self.first_of(name);
         let declarations = declared_from(&self.arrays.declarations, usize::from(first.number));
         place_among(declarations, name, first)
+    }
+
+    // The array at which the search for a name begins.
+    fn first_of(&self, name: &Name) -> First
+        ensures { BeginsAt self.now name.now result }
+    {
+        if self.firsts.is_empty() {
+            return First { number: 0, base: 0 };
+        }
+        self.firsts[slot(name)]
     }
 
     /// The arrays themselves.
@@ -124,6 +134,29 @@ impl<'p> Layout<'p> {
     {
         self.cells
     }
+}
+
+// The first array of each slot, or nothing if there are few arrays.
+fn firsts_of(
+    alloc: Global,
+    declarations: &[ArrayDecl],
+    cells: u16,
+) -> Result<Vec<First>, AllocError>
+    requires cells { cells ≡ cells_of (arrays_of (map declaration_of declarations.now)) }
+    requires count { length declarations.now ≤ most_cells }
+    ensures { IfOk result (λ firsts. (firsts.items ≡ [])
+        ⊎ AreFirsts 0 0 (arrays_of (map declaration_of declarations.now)) firsts.items) }
+{
+    if declarations.len() <= FEW {
+        return Ok(Vec::new(alloc));
+    }
+    let none = First {
+        number: declarations.len() as u16,
+        base: cells,
+    };
+    let mut firsts = table_of(alloc, none)?;
+    put_firsts(declarations, cells, &mut firsts);
+    Ok(firsts)
 }
 
 // A table with this in each slot.
