@@ -1,46 +1,28 @@
 //! The base of one thread.
 ghost use Rattle.std.specs.Prelude.{◌≡◌, ◌*◌, ◌==◌, [], IsOk, IfOk, length, true, false};
-ghost use Rattle.sched_api.specs.declared.hearing.Told.{Told};
 ghost use Rattle.sched_api.specs.Calls.{registered_told, unregistered_told, requested_told, yielded_told, blocked_told};
 ghost use Rattle.sched_api.specs.Wishes.{with_wishes, without_child};
 ghost use Rattle.base_sched.specs.Oldest.{BaseState, shut_base, LendsOldest, HearsOf};
 
-use sched_api::{Call, Hearing, Next, Scheduler, Told, Wishes};
+use sched_api::{Call, Heard, Next, Scheduler, Wishes};
 use std::alloc::{AllocError, Global};
 use std::marker::Model;
 
 /// The room for wishes at each site.
 const WISHES_PER_SITE: usize = 15;
 
-/// The receipt of a callback of the base.
+/// What makes the receipts of the base. Only this crate can make it.
 #[derive(Drop)]
-pub struct BaseHeard {
-    told: Told,
-}
+pub struct BaseSeal(());
 
-impl Model for BaseHeard {
-    ghost use Rattle.sched_api.specs.declared.hearing.Told.{Told};
-
-    ghost Value = { Told };
-
-    ghost view = { λ h. h.told };
-}
-
-impl Hearing for BaseHeard {
-    ghost heard = { λ h. h };
-
-    fn told(&self) -> Told {
-        self.told
-    }
-}
+/// The receipt of a callback of the base.
+pub type BaseHeard = Heard<BaseSeal>;
 
 // Only callbacks call this function.
 pub(crate) fn heard(call: Call, child: u16, count: u8) -> BaseHeard
     ensures { result ≡ record { call = call; child = child; count = count } }
 {
-    BaseHeard {
-        told: Told { call, child, count },
-    }
+    Heard::new(BaseSeal(()), call, child, count)
 }
 
 /// The scheduler of site 0. It keeps the wishes of the top sites, and has no contexts.

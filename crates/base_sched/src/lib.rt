@@ -9,7 +9,7 @@ mod base;
 mod hand;
 mod shared;
 
-pub use base::{Base, BaseHeard};
+pub use base::{Base, BaseHeard, BaseSeal};
 pub use hand::BaseHand;
 pub use shared::{SharedBase, SharedBaseHand};
 

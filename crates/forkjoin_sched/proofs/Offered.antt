@@ -6,14 +6,14 @@ use Rattle.deque_rows.specs.Rows.{IsLevel, identity}
 use Rattle.deque_rows.specs.Calls.{Pushes}
 use Rattle.std.proofs.lemmas.List.{length-append}
 use Rattle.array_jobs.specs.Jobs.{JobParts}
-use Rattle.forkjoin_sched.specs.declared.work.PoolWork.{PoolWork}
-use Rattle.forkjoin_sched.specs.declared.work.PoolWork.TheVariants.{Begin, Ready}
+use Rattle.step_eval.specs.declared.work.Work.{Work}
+use Rattle.step_eval.specs.declared.work.Work.TheVariants.{Begin, Ready}
 use Rattle.forkjoin_sched.specs.Pools.{PoolParts, IsPieceAt, GivesJob, with_agenda}
 use Rattle.forkjoin_sched.specs.Hands.{RunsTo, IsFalling, PushesCodes, OffersJobs, code_at}
 use Rattle.forkjoin_sched.proofs.RowSteps.{pushes_none, pushes_more, falls_on, falls_more}
 
 -- The last job is taken.
-pub runs_less : (n : ℕ) (rest : List PoolWork) (last : PoolWork) → RunsTo (suc n) (rest ++ last ∷ []) → RunsTo n rest
+pub runs_less : (n : ℕ) (rest : List Work) (last : Work) → RunsTo (suc n) (rest ++ last ∷ []) → RunsTo n rest
 runs_less n [] last h = tt
 runs_less n (Begin job ∷ rest) last h = (
   let e = h.0 in let l = length-append rest (last ∷ []) in let is : job.place + length rest + 1 ≡ n = omega (arith, e, l) in is,
@@ -22,8 +22,8 @@ runs_less n (Begin job ∷ rest) last h = (
 runs_less n (Ready context ∷ rest) last h = absurd h
 
 -- The last job has the last index.
-pub run_ends : (n : ℕ) (work : PoolWork) (works : List PoolWork) → RunsTo (suc n) (work ∷ works)
-    → (rest : List PoolWork) × (last : PoolWork) × ((work ∷ works) ≡ rest ++ last ∷ []) × IsPieceAt n last
+pub run_ends : (n : ℕ) (work : Work) (works : List Work) → RunsTo (suc n) (work ∷ works)
+    → (rest : List Work) × (last : Work) × ((work ∷ works) ≡ rest ++ last ∷ []) × IsPieceAt n last
 run_ends n (Ready context) works h = absurd h
 run_ends n (Begin job) [] h = ([], Begin job, refl, let e = h.0 in let is : job.place ≡ n = omega (arith, e) in is)
 run_ends n (Begin job) (work ∷ works) h =
@@ -31,12 +31,12 @@ run_ends n (Begin job) (work ∷ works) h =
     (Begin job ∷ more.0, more.1, ap (λ ws. Begin job ∷ ws) more.2, more.3)
 
 -- If the last job doesn't have the last index, no job is left.
-pub run_over : (n : ℕ) (works : List PoolWork) → RunsTo (suc n) works
-    → ((rest : List PoolWork) (last : PoolWork) → works ≡ rest ++ last ∷ [] → ¬ IsPieceAt n last) → RunsTo n works
+pub run_over : (n : ℕ) (works : List Work) → RunsTo (suc n) works
+    → ((rest : List Work) (last : Work) → works ≡ rest ++ last ∷ [] → ¬ IsPieceAt n last) → RunsTo n works
 run_over n [] h none = tt
 run_over n (work ∷ works) h none = let end = run_ends n work works h in absurd (none end.0 end.1 end.2 end.3)
 
-pub run_done : (works : List PoolWork) → RunsTo 0 works → works ≡ []
+pub run_done : (works : List Work) → RunsTo 0 works → works ≡ []
 run_done [] h = refl
 run_done (Begin job ∷ works) h = absurd (let e = h.0 in omega (arith, e))
 run_done (Ready context ∷ works) h = absurd h

@@ -11,10 +11,10 @@ use Rattle.deque_rows.specs.Rows.{identity, home_logs, pass_logs, bares, home_lo
 use Rattle.sched_api.specs.Agenda.{GivesReady}
 use Rattle.forkjoin_sched.specs.Pools.{PoolParts, Answers, with_agenda, with_book}
 use Rattle.forkjoin_sched.specs.Batches.{PutsAll}
-use Rattle.forkjoin_sched.specs.declared.work.PoolWork.{PoolWork}
-use Rattle.forkjoin_sched.specs.declared.work.PoolWork.TheVariants.{Begin, Ready}
+use Rattle.step_eval.specs.declared.work.Work.{Work}
+use Rattle.step_eval.specs.declared.work.Work.TheVariants.{Begin, Ready}
 use Rattle.forkjoin_sched.specs.declared.looks.Found.{Found}
-use Rattle.forkjoin_sched.specs.declared.looks.Found.TheVariants.{HandedOut, NoneLeft, Work, Put}
+use Rattle.forkjoin_sched.specs.declared.looks.Found.TheVariants as found
 use Rattle.forkjoin_sched.specs.declared.looks.Looks.{Looks}
 
 -- The job index of a site's piece, which deques hold.
@@ -29,28 +29,28 @@ code_of job = code_at job.site job.place
 
 -- One more look, with this result.
 abbrev pub Sees : Looks → Found → Looks → Type 0
-Sees before found after = Rose before.count after.count × (after.last ≡ Some found)
+Sees before what after = Rose before.count after.count × (after.last ≡ Some what)
 
 -- The result of a look for work.
-abbrev pub found_by : Option PoolParts → Next PoolWork → Found
-found_by None next = HandedOut
-found_by (Some pool) Nothing = NoneLeft
-found_by (Some pool) (Run work) = Work
-found_by (Some pool) (Lend site) = Work
+abbrev pub found_by : Option PoolParts → Next Work → Found
+found_by None next = found.HandedOut
+found_by (Some pool) Nothing = found.NoneLeft
+found_by (Some pool) (Run work) = found.Work
+found_by (Some pool) (Lend site) = found.Work
 
 -- The result of a look that puts so many pieces into the pool.
 abbrev pub put_by : Option PoolParts → ℕ → Found
-put_by None count = HandedOut
-put_by (Some pool) count = Put count
+put_by None count = found.HandedOut
+put_by (Some pool) count = found.Put count
 
 -- The pool returns what its `enter` does, and a pool that was handed out returns `Nothing`.
-abbrev pub AnswersUnder : Option PoolParts → Next PoolWork → Option PoolParts → Type 0
+abbrev pub AnswersUnder : Option PoolParts → Next Work → Option PoolParts → Type 0
 AnswersUnder None next after = (next ≡ Nothing) × (after ≡ None)
 AnswersUnder (Some pool) next None = ⊥
 AnswersUnder (Some pool) next (Some after) = Answers pool next after
 
 -- The first ready context is taken.
-abbrev pub GivesReadyUnder : Option PoolParts → Option PoolWork → Option PoolParts → Type 0
+abbrev pub GivesReadyUnder : Option PoolParts → Option Work → Option PoolParts → Type 0
 GivesReadyUnder None ready after = (ready ≡ None) × (after ≡ None)
 GivesReadyUnder (Some pool) ready None = ⊥
 GivesReadyUnder (Some pool) ready (Some after) =
@@ -118,7 +118,7 @@ pub record PushesCodes (site level : ℕ) (places : List ℕ) (before after : Ha
   pub bares : bares after ≡ bares before
 
 -- The jobs are those from some index on to the one before n, in order.
-abbrev pub RunsTo : ℕ → List PoolWork → Type 0
+abbrev pub RunsTo : ℕ → List Work → Type 0
 RunsTo n [] = Unit {0}
 RunsTo n (Begin job ∷ works) = (job.place + length works + 1 ≡ n) × RunsTo n works
 RunsTo n (Ready context ∷ works) = ⊥
@@ -137,8 +137,8 @@ pub record OffersJobs (site level n : ℕ) (pool : PoolParts) (rows : HartRows) 
 abbrev pub OffersUnder : ℕ → ℕ → ℕ → Looks × Option PoolParts × HartRows
     → Looks × Option PoolParts × HartRows → Type 0
 OffersUnder site level n (looks, None, rows) (looks', kept', rows') =
-    Sees looks HandedOut looks' × (kept' ≡ None) × (rows' ≡ rows)
+    Sees looks found.HandedOut looks' × (kept' ≡ None) × (rows' ≡ rows)
 OffersUnder site level n (looks, Some pool, rows) (looks', None, rows') = ⊥
 OffersUnder site level n (looks, Some pool, rows) (looks', Some pool', rows') =
-    Sees looks Work looks' × (places : List ℕ)
+    Sees looks found.Work looks' × (places : List ℕ)
     × OffersJobs site level n pool rows places pool' rows'

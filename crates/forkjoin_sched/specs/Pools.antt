@@ -9,13 +9,13 @@ use Rattle.sched_api.specs.declared.scheduler.Next.{Next}
 use Rattle.lithe_mutex.specs.Mutex.{Possession, Free, Held}
 use Rattle.array_jobs.specs.Jobs.{JobParts}
 use Rattle.join_book.specs.Books.{BookParts, open_book}
-use Rattle.forkjoin_sched.specs.declared.work.PoolWork.{PoolWork}
-use Rattle.forkjoin_sched.specs.declared.work.PoolWork.TheVariants.{Begin, Ready}
+use Rattle.step_eval.specs.declared.work.Work.{Work}
+use Rattle.step_eval.specs.declared.work.Work.TheVariants.{Begin, Ready}
 
 -- The parts of a pool that contracts see: its site, its lists for harts, and the book of its pieces.
 pub record PoolParts : Type 0 where
   pub site : ℕ
-  pub agenda : AgendaParts PoolWork
+  pub agenda : AgendaParts Work
   pub book : BookParts
 
 -- The site of the jobs.
@@ -59,7 +59,7 @@ free_book (Free book) = book
 free_book (Held waiting) = record { jobs = []; places = [] }
 
 -- The call `enter` of a pool returns the next action of its agenda, and changes only its agenda.
-pub record Answers (before : PoolParts) (next : Next PoolWork) (after : PoolParts) : Type 0 where
+pub record Answers (before : PoolParts) (next : Next Work) (after : PoolParts) : Type 0 where
   pub handed : TakesNext before.agenda next after.agenda
   pub site : after.site ≡ before.site
   pub book : after.book ≡ before.book
@@ -74,7 +74,7 @@ Hears before told after =
     }
 
 -- The pool takes a context back into its ready list, if there is room.
-pub record Takes (before : PoolParts) (c : PoolWork) (answer : Result (Unit {0}) PoolWork)
+pub record Takes (before : PoolParts) (c : Work) (answer : Result (Unit {0}) Work)
     (after : PoolParts) : Type 0 where
   pub ready : PutsReady before.agenda c answer after.agenda
   pub site : after.site ≡ before.site
@@ -85,11 +85,11 @@ abbrev pub with_book : PoolParts → BookParts → PoolParts
 with_book pool book = record pool { book = book }
 
 -- The pool has this agenda, and is otherwise unchanged.
-abbrev pub with_agenda : PoolParts → AgendaParts PoolWork → PoolParts
+abbrev pub with_agenda : PoolParts → AgendaParts Work → PoolParts
 with_agenda pool agenda = record pool { agenda = agenda }
 
 -- The work is a piece at this index that isn't begun.
-abbrev pub IsPieceAt : ℕ → PoolWork → Type 0
+abbrev pub IsPieceAt : ℕ → Work → Type 0
 IsPieceAt place (Begin job) = job.place ≡ place
 IsPieceAt place (Ready context) = ⊥
 
@@ -99,5 +99,5 @@ GivesJob before place (Some job) after =
     (before.agenda.unbegun ≡ after.agenda.unbegun ++ Begin job ∷ []) × (job.place ≡ place)
     × (after ≡ with_agenda before (record before.agenda { unbegun = after.agenda.unbegun }))
 GivesJob before place None after =
-    ((rest : List PoolWork) (last : PoolWork) → before.agenda.unbegun ≡ rest ++ last ∷ []
+    ((rest : List Work) (last : Work) → before.agenda.unbegun ≡ rest ++ last ∷ []
     → ¬ IsPieceAt place last) × (after ≡ before)

@@ -8,8 +8,7 @@ ghost use Rattle.forkjoin_sched.specs.HandCalls.{AnswersHand, IsStill, Offers, T
 use crate::batch::PieceBatch;
 use crate::hand::PoolHand;
 use crate::pieces::take_piece;
-use crate::pool::{Pool, PoolHeard, heard};
-use crate::work::PoolWork;
+use crate::pool::{Pool, PoolHeard, PoolWork, heard};
 use array_jobs::{Job, Piece};
 use join_book::Deposit;
 use sched_api::{Call, Next, Scheduler};

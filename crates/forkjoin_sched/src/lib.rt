@@ -17,11 +17,9 @@ mod pieces;
 mod pool;
 mod same_jobs;
 mod shared;
-mod work;
 
 pub use batch::{NotAdded, PieceBatch};
 pub use hand::PoolHand;
 pub use looks::{Found, Looks};
-pub use pool::{Pool, PoolHeard};
+pub use pool::{Pool, PoolHeard, PoolSeal, PoolWork};
 pub use shared::SharedPool;
-pub use work::PoolWork;

@@ -7,8 +7,7 @@ ghost use Rattle.forkjoin_sched.specs.Hands.{Sees, found_by, put_by, AnswersUnde
 
 use crate::batch::PieceBatch;
 use crate::offering::offer_jobs;
-use crate::pool::Pool;
-use crate::work::PoolWork;
+use crate::pool::{Pool, PoolWork};
 use array_jobs::Job;
 use deque_rows::HartRows;
 use sched_api::{Next, Scheduler};

@@ -1,54 +1,39 @@
 //! Pools.
 ghost use Rattle.std.specs.Prelude.{◌≡◌, ◌↔◌, ◌<◌, IsTrue, IfOk, IfSome, IsErr, map, length};
-ghost use Rattle.sched_api.specs.declared.hearing.Told.{Told};
 ghost use Rattle.sched_api.specs.Wishes.{with_wishes};
 ghost use Rattle.array_jobs.specs.Jobs.{job_of};
 ghost use Rattle.array_jobs.specs.Groups.{IsGroup};
 ghost use Rattle.sched_api.specs.Agenda.{GivesReady};
 ghost use Rattle.join_book.specs.Books.{Open, Filled, Failed, IsMarked, IsPlaceOf, IsFull, HasFailed, Deposits, Puts, marked_book, all_writes};
-ghost use Rattle.forkjoin_sched.specs.declared.work.PoolWork.TheVariants.{Begin};
+ghost use Rattle.step_eval.specs.declared.work.Work.TheVariants.{Begin};
 ghost use Rattle.forkjoin_sched.specs.Pools.{StartFrom, HaveOneStart, new_pool, roomy_pool, Answers, Hears, Takes, with_book, with_agenda, GivesJob};
 
-use crate::work::PoolWork;
 use array_eval::{Overlay, Store};
 use array_jobs::{Job, Piece};
 use join_book::{Book, Deposit};
 use lithe_mutex::{Acquired, MutexState};
-use sched_api::{Agenda, Call, Hearing, MOST_WISHES, Next, Scheduler, Told};
+use sched_api::{Agenda, Call, Heard, MOST_WISHES, Next, Scheduler};
 use std::alloc::{AllocError, Global};
 use std::collections::VecDeque;
 use std::marker::Model;
+use step_eval::Work;
+
+/// What makes the receipts of a pool. Only this crate can make it.
+#[derive(Drop)]
+pub struct PoolSeal(());
 
 /// The receipt of a callback of a pool.
-#[derive(Drop)]
-pub struct PoolHeard {
-    told: Told,
-}
-
-impl Model for PoolHeard {
-    ghost use Rattle.sched_api.specs.declared.hearing.Told.{Told};
-
-    ghost Value = { Told };
-
-    ghost view = { λ h. h.told };
-}
-
-impl Hearing for PoolHeard {
-    ghost heard = { λ h. h };
-
-    fn told(&self) -> Told {
-        self.told
-    }
-}
+pub type PoolHeard = Heard<PoolSeal>;
 
 // Only callbacks call this function.
 pub(crate) fn heard(call: Call, child: u16, count: u8) -> PoolHeard
     ensures { result ≡ record { call = call; child = child; count = count } }
 {
-    PoolHeard {
-        told: Told { call, child, count },
-    }
+    Heard::new(PoolSeal(()), call, child, count)
 }
+
+/// What a hart takes from a pool.
+pub type PoolWork<'p> = Work<'p>;
 
 /// The scheduler of one `par`. It has the pieces that are not begun, the contexts that are ready to go on, and the wishes of
 /// its children. The book of its pieces is under a mutex, which each call holds to its end.

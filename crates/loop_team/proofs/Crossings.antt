@@ -12,7 +12,7 @@ use Rattle.step_eval.specs.contracts.nested.Nested as Nested
 use Rattle.sched_api.specs.contracts.agenda.Agenda as Agenda
 use Rattle.join_book.specs.contracts.book.Book as Book
 use Rattle.lithe_barrier.specs.contracts.state.BarrierState as BarrierState
-use Rattle.loop_team.specs.contracts.work.TeamWork as TeamWork
+use Rattle.step_eval.specs.contracts.work.Work as Work
 use Rattle.loop_team.specs.contracts.team.Team as Team
 use Rattle.loop_team.specs.contracts.shared.SharedTeam as SharedTeam
 
@@ -38,10 +38,10 @@ module _ (l : NamedLft) where
   barrier_send : IsSend (BarrierState.the_row l)
   barrier_send = let book = book_send in search (crosses, sendable) depth 60 fits 20000
 
-  team_work_send : IsSend (TeamWork.the_row l)
+  team_work_send : IsSend (Work.the_row l)
   team_work_send = let job = job_send in let paused = paused_send in search (crosses, sendable) depth 60 fits 20000
 
-  team_agenda_send : IsSend (Agenda.the_row (TeamWork.the_row l))
+  team_agenda_send : IsSend (Agenda.the_row (Work.the_row l))
   team_agenda_send = let work = team_work_send in search (crosses, sendable) depth 60 fits 20000
 
   team_send : IsSend (Team.the_row l)

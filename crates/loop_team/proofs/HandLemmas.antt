@@ -18,8 +18,8 @@ use Rattle.sched_api.specs.declared.scheduler.Next.{Next}
 use Rattle.sched_api.specs.declared.scheduler.Next.TheVariants.{Run, Lend, Nothing}
 use Rattle.loop_team.specs.declared.found.Found.{Found}
 use Rattle.loop_team.specs.declared.hand.TeamHand.{TeamHand}
-use Rattle.loop_team.specs.declared.work.TeamWork.{TeamWork}
-use Rattle.loop_team.specs.declared.work.TeamWork.TheVariants.{Begin, Ready}
+use Rattle.step_eval.specs.declared.work.Work.{Work}
+use Rattle.step_eval.specs.declared.work.Work.TheVariants.{Begin, Ready}
 use Rattle.loop_team.specs.Hands.{IsSameHand, HasFound, HasClaimed, NoneWasLeft, HasCause, Enters, HasLooked, HasTried, HasGoneOn, Turns}
 use Rattle.loop_team.specs.Looks.{ReportsReady, ReportsRest}
 use Rattle.loop_team.specs.Rows.{RowsFit}
@@ -73,7 +73,7 @@ module _ {R : Type 0} where
   found_of : (before after : TeamHand R) (what : Found) → HasLooked before after → after.found ≡ what → HasFound before what after
   found_of before after what looked e = record { looked = looked.looked; last = e }
 
-  pub ready_turn : (before after : TeamHand R) (next : Option (Next TeamWork)) → HasLooked before after → ReportsReady after.found next → Turns before next after
+  pub ready_turn : (before after : TeamHand R) (next : Option (Next Work)) → HasLooked before after → ReportsReady after.found next → Turns before next after
   ready_turn before after None looked reports = looked_on before after looked
   ready_turn before after (Some (Run (Begin job))) looked reports = record { same = looked_same before after looked; cause = inl (found_of before after _ looked reports) }
   ready_turn before after (Some (Run (Ready context))) looked reports = record { same = looked_same before after looked; cause = found_of before after _ looked reports }
@@ -160,7 +160,7 @@ module _ {R : Type 0} where
   found_after : (before mid after : TeamHand R) (what : Found) → mid.looks ≡ before.looks → HasLooked mid after → after.found ≡ what → HasFound before what after
   found_after before mid after what same looked e = record { looked = subst (λ n. Rose n after.looks) same looked.looked; last = e }
 
-  pub rest_turn : (before mid after : TeamHand R) (phase shown : ℕ) (next : Option (Next TeamWork)) → RowsFit before.claims.now.counts.items before.row before.shared.now →
+  pub rest_turn : (before mid after : TeamHand R) (phase shown : ℕ) (next : Option (Next Work)) → RowsFit before.claims.now.counts.items before.row before.shared.now →
       phase < phases_in before.shared.now → HasTried before phase (NoneLeft shown) mid → HasLooked mid after → ReportsRest after.found next → Turns before next after
   rest_turn before mid after phase shown None fits there tried looked reports =
       goes_on before mid after (tried_on before mid phase shown tried) (looked_on mid after looked)
@@ -175,7 +175,7 @@ module _ {R : Type 0} where
       none : NoneWasLeft before after
       none = none_left before mid after phase shown fits there tried looked
 
-      cause_of : (next : Next TeamWork) → ReportsRest after.found (Some next) → HasCause before next after
+      cause_of : (next : Next Work) → ReportsRest after.found (Some next) → HasCause before next after
       cause_of (Run (Begin job)) reports = inl (found _ reports)
       cause_of (Run (Ready context)) reports = found _ reports
       cause_of (Lend child) reports = (found _ reports, none)
@@ -215,10 +215,10 @@ module _ {R : Type 0} where
     claimed = grown_last _ _ _ _ _ _ gone.claimed.1 has.claimed ∙ ap (λ r. ((seat_view before.seat.now).claimed ++ (gone.claimed.0 ++ has.earlier)) ++ (r + job.phase, job.place) ∷ []) gone.same.row;
   }
 
-  pub later_enters : (before mid after : TeamHand R) (next : Next TeamWork) → HasGoneOn before mid → Enters mid next after → Enters before next after
+  pub later_enters : (before mid after : TeamHand R) (next : Next Work) → HasGoneOn before mid → Enters mid next after → Enters before next after
   later_enters before mid after next gone enters = record { same = same_after before mid after gone.same enters.same; cause = cause_of next enters.cause }
     where
-      cause_of : (next : Next TeamWork) → HasCause mid next after → HasCause before next after
+      cause_of : (next : Next Work) → HasCause mid next after → HasCause before next after
       cause_of (Run (Begin job)) (inl has) = inl (later_found before mid after _ gone has)
       cause_of (Run (Begin job)) (inr has) = inr (later_claimed before mid after job gone has)
       cause_of (Run (Ready context)) has = later_found before mid after _ gone has

@@ -27,8 +27,8 @@ use Rattle.step_eval.specs.Nests.{NestedTree, NestedParts, nested_of, phases_of,
 use Rattle.step_eval.specs.Phases.{phase_writes, store_before}
 use Rattle.step_eval.proofs.PieceLemmas.{fit_other_store}
 use Rattle.step_eval.proofs.PhaseLemmas.{phases_are_merged}
-use Rattle.loop_team.specs.declared.work.TeamWork.{TeamWork}
-use Rattle.loop_team.specs.declared.work.TeamWork.TheVariants.{Begin, Ready}
+use Rattle.step_eval.specs.declared.work.Work.{Work}
+use Rattle.step_eval.specs.declared.work.Work.TheVariants.{Begin, Ready}
 use Rattle.loop_team.specs.Teams.{TeamParts, AreJobsIn, IsOver, GoesOn, Opens, FailsToGoOn, MovesOn, phases_in, writes_in, opened_team, failed_team, with_barrier}
 
 -- ---- what a phase writes
@@ -126,11 +126,11 @@ pub member_in_order : {C : Type 0} → (all : List C) (before later : AgendaPart
     (begun : ℕ) × (before.unbegun ≡ drop begun all) → (begun : ℕ) × (later.unbegun ≡ drop begun all)
 member_in_order all before later c taken known = (known.0 + 1, ap (drop 1) (sym taken ∙ known.1) ∙ drop-drop 1 known.0 all)
 
-abbrev pub IsMember : TeamWork → Type 0
+abbrev pub IsMember : Work → Type 0
 IsMember (Begin job) = Unit {0}
 IsMember (Ready context) = ⊥
 
-abbrev FirstIsMember : List TeamWork → Type 0
+abbrev FirstIsMember : List Work → Type 0
 FirstIsMember [] = Unit {0}
 FirstIsMember (work ∷ rest) = IsMember work
 
@@ -140,5 +140,5 @@ first_member [] (suc begun) = tt
 first_member (job ∷ jobs) zero = tt
 first_member (job ∷ jobs) (suc begun) = first_member jobs begun
 
-pub is_member : (jobs : List JobParts) (work : TeamWork) (unbegun rest : List TeamWork) → unbegun ≡ work ∷ rest → (begun : ℕ) × (unbegun ≡ drop begun (map Begin jobs)) → IsMember work
+pub is_member : (jobs : List JobParts) (work : Work) (unbegun rest : List Work) → unbegun ≡ work ∷ rest → (begun : ℕ) × (unbegun ≡ drop begun (map Begin jobs)) → IsMember work
 is_member jobs work unbegun rest taken known = subst FirstIsMember (sym known.1 ∙ taken) (first_member jobs known.0)

@@ -12,8 +12,8 @@ use Rattle.sched_api.specs.declared.scheduler.Next.TheVariants.{Run, Lend, Nothi
 use Rattle.loop_team.specs.declared.found.Found.{Found}
 use Rattle.loop_team.specs.declared.found.Found.TheVariants as found
 use Rattle.loop_team.specs.declared.hand.TeamHand.{TeamHand}
-use Rattle.loop_team.specs.declared.work.TeamWork.{TeamWork}
-use Rattle.loop_team.specs.declared.work.TeamWork.TheVariants.{Begin, Ready}
+use Rattle.step_eval.specs.declared.work.Work.{Work}
+use Rattle.step_eval.specs.declared.work.Work.TheVariants.{Begin, Ready}
 use Rattle.loop_team.specs.Teams.{phases_in, members_in}
 
 -- No call of a hand changes its team, its claim counters, and the hart of its seat.
@@ -52,13 +52,13 @@ pub record NoneWasLeft {R : Type 0} (before after : TeamHand R) : Type 0 where
       ++ look (before.row + phase) kind shown ∷ []
 
 -- The work that runs was found under the lock, or is a member that was claimed.
-abbrev pub Begins : {R : Type 0} → TeamHand R → TeamWork → TeamHand R → Type 0
+abbrev pub Begins : {R : Type 0} → TeamHand R → Work → TeamHand R → Type 0
 Begins before (Begin job) after = HasFound before found.Work after ⊎ HasClaimed before job after
 Begins before (Ready context) after = HasFound before found.Work after
 
 -- The cause of a result of `enter`, all of it found by the call. `enter` meets a child's wish, or returns `Nothing` for a team
 -- that isn't handed out, only if no member was left to be claimed.
-abbrev pub HasCause : {R : Type 0} → TeamHand R → Next TeamWork → TeamHand R → Type 0
+abbrev pub HasCause : {R : Type 0} → TeamHand R → Next Work → TeamHand R → Type 0
 HasCause before (Run work) after = Begins before work after
 HasCause before (Lend child) after = HasFound before found.Wish after × NoneWasLeft before after
 HasCause before Nothing after =
@@ -66,7 +66,7 @@ HasCause before Nothing after =
     ⊎ (HasFound before found.Idle after × NoneWasLeft before after)
 
 -- The hand is the same, and the result of `enter` has its cause in what the call found.
-pub record Enters {R : Type 0} (before : TeamHand R) (next : Next TeamWork)
+pub record Enters {R : Type 0} (before : TeamHand R) (next : Next Work)
     (after : TeamHand R) : Type 0 where
   pub same : IsSameHand before after
   pub cause : HasCause before next after
@@ -101,6 +101,6 @@ pub record HasGoneOn {R : Type 0} (before after : TeamHand R) : Type 0 where
   pub looks : before.looks ≤ after.looks
 
 -- A turn of `enter`: it has a result, or the hand looks again.
-abbrev pub Turns : {R : Type 0} → TeamHand R → Option (Next TeamWork) → TeamHand R → Type 0
+abbrev pub Turns : {R : Type 0} → TeamHand R → Option (Next Work) → TeamHand R → Type 0
 Turns before None after = HasGoneOn before after
 Turns before (Some next) after = Enters before next after

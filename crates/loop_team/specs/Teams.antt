@@ -20,15 +20,15 @@ use Rattle.step_eval.specs.Nests.{NestedParts, nested_of, phases_of, jobs_in, Is
 use Rattle.step_eval.specs.Phases.{phase_writes, store_before}
 use Rattle.step_eval.specs.Shapes.{members_of}
 use Rattle.loop_team.specs.declared.team.Phase.{Phase}
-use Rattle.loop_team.specs.declared.work.TeamWork.{TeamWork}
-use Rattle.loop_team.specs.declared.work.TeamWork.TheVariants.{Begin}
+use Rattle.step_eval.specs.declared.work.Work.{Work}
+use Rattle.step_eval.specs.declared.work.Work.TheVariants.{Begin}
 
 -- The parts of a team that contracts see.
 pub record TeamParts : Type 0 where
   -- Its construct, with the variables and the store before it.
   pub nested : NestedParts
   -- Its lists for harts.
-  pub agenda : AgendaParts TeamWork
+  pub agenda : AgendaParts Work
   -- The number of phases that have opened.
   pub opened : ℕ
   -- The slots of the current phase, or of the last one.
@@ -98,7 +98,7 @@ abbrev pub with_barrier : TeamParts → BookParts → TeamParts
 with_barrier team barrier = record team { barrier = barrier }
 
 -- The team has this agenda, and is otherwise unchanged.
-abbrev pub with_agenda : TeamParts → AgendaParts TeamWork → TeamParts
+abbrev pub with_agenda : TeamParts → AgendaParts Work → TeamParts
 with_agenda team agenda = record team { agenda = agenda }
 
 -- The team is failed, and is otherwise unchanged.
@@ -144,7 +144,7 @@ AreInOrder team = (begun : ℕ) × (team.agenda.unbegun ≡ drop begun (map Begi
 
 -- The call `enter` of a team returns the next action of its agenda, and changes only its agenda. So the member that it hands
 -- out is the lowest that isn't begun.
-pub record Answers (before : TeamParts) (next : Next TeamWork) (after : TeamParts) : Type 0 where
+pub record Answers (before : TeamParts) (next : Next Work) (after : TeamParts) : Type 0 where
   pub handed : TakesNext before.agenda next after.agenda
   pub rest : after ≡ with_agenda before after.agenda
   pub in_order : AreInOrder before
@@ -156,13 +156,13 @@ Hears before told after =
     (record before.agenda { wishes = wishes_after told before.agenda.wishes })
 
 -- The team takes a context back into its ready list, if there is room.
-pub record Takes (before : TeamParts) (c : TeamWork) (answer : Result (Unit {0}) TeamWork)
+pub record Takes (before : TeamParts) (c : Work) (answer : Result (Unit {0}) Work)
     (after : TeamParts) : Type 0 where
   pub ready : PutsReady before.agenda c answer after.agenda
   pub rest : after ≡ with_agenda before after.agenda
 
 -- A hand takes a ready context, or a member, by itself.
-pub record TakesReady (before : TeamParts) (answer : Option TeamWork)
+pub record TakesReady (before : TeamParts) (answer : Option Work)
     (after : TeamParts) : Type 0 where
   pub given : GivesReady before.agenda answer after.agenda
   pub rest : after ≡ with_agenda before after.agenda

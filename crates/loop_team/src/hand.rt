@@ -7,8 +7,7 @@ ghost use Rattle.loop_team.specs.Rows.{RowsFit};
 
 use crate::found::Found;
 use crate::shared::SharedTeam;
-use crate::team::{Team, TeamHeard, heard};
-use crate::work::TeamWork;
+use crate::team::{Team, TeamHeard, TeamWork, heard};
 use array_jobs::Piece;
 use claim_words::{ClaimSeat, ClaimTable, Claimed};
 use lithe_barrier::Arrival;

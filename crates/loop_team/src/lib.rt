@@ -13,12 +13,10 @@ mod rows;
 mod shared;
 mod stripes;
 mod team;
-mod work;
 
 pub use claim_words::{ClaimSeat, ClaimTable, Claimed};
 pub use found::Found;
 pub use hand::TeamHand;
 pub use rows::rows_fit;
 pub use shared::SharedTeam;
-pub use team::{Team, TeamHeard};
-pub use work::TeamWork;
+pub use team::{Team, TeamHeard, TeamSeal, TeamWork};

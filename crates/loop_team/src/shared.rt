@@ -6,8 +6,7 @@ ghost use Rattle.loop_team.specs.Teams.{phases_in};
 
 use crate::found::Found;
 use crate::stripes::{STRIPES, Stripe, hand_on};
-use crate::team::Team;
-use crate::work::TeamWork;
+use crate::team::{Team, TeamWork};
 use array_eval::Overlay;
 use array_jobs::{Job, Piece};
 use crossbeam_utils::Backoff;

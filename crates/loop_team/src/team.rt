@@ -1,6 +1,5 @@
 //! Teams.
 ghost use Rattle.std.specs.Prelude.{◌≡◌, ◌↔◌, ◌+◌, ◌<◌, IsTrue, IfOk, IsErr, MatchOption, OnOk, OnErr, Some, true, length, map};
-ghost use Rattle.sched_api.specs.declared.hearing.Told.{Told};
 ghost use Rattle.sched_api.specs.Wishes.{with_wishes};
 ghost use Rattle.array_tree.specs.Trees.{statement_of};
 ghost use Rattle.join_book.specs.Books.{Open, IsMarked, IsPlaceOf, IsFull};
@@ -8,52 +7,37 @@ ghost use Rattle.step_eval.specs.declared.shape.Kind.TheVariants as kind;
 ghost use Rattle.step_eval.specs.Inside.Computed.{HasReached};
 ghost use Rattle.step_eval.specs.Nests.{nested_of, nested_writes, IsFitNest};
 ghost use Rattle.step_eval.specs.Shapes.{kind_of};
-ghost use Rattle.loop_team.specs.declared.work.TeamWork.TheVariants.{Begin};
+ghost use Rattle.step_eval.specs.declared.work.Work.TheVariants.{Begin};
 ghost use Rattle.array_jobs.specs.Jobs.{job_of};
 ghost use Rattle.loop_team.specs.Stripes.{StartsFrom, IsAwaited, IsNotAwaited};
 ghost use Rattle.loop_team.specs.Teams.{IsNew, IsRoomy, IsOver, MovesOn, GoesOn, Answers, Hears, Takes, TakesReady, TakesMember, IsPhase, phases_in, writes_in, opened_team, failed_team};
 
-use crate::work::TeamWork;
 use array_eval::{MarkedStore, Overlay, Store};
 use array_jobs::{Job, Piece};
 use lithe_barrier::{Arrival, BarrierState};
-use sched_api::{Agenda, Call, Hearing, MOST_WISHES, Next, Scheduler, Told};
+use sched_api::{Agenda, Call, Heard, MOST_WISHES, Next, Scheduler};
 use std::alloc::{AllocError, Global};
 use std::collections::VecDeque;
 use std::marker::Model;
 use std::mem;
-use step_eval::{Nested, jobs_of};
+use step_eval::{Nested, Work, jobs_of};
+
+/// What makes the receipts of a team. Only this crate can make it.
+#[derive(Drop)]
+pub struct TeamSeal(());
 
 /// The receipt of a callback of a team.
-#[derive(Drop)]
-pub struct TeamHeard {
-    told: Told,
-}
-
-impl Model for TeamHeard {
-    ghost use Rattle.sched_api.specs.declared.hearing.Told.{Told};
-
-    ghost Value = { Told };
-
-    ghost view = { λ h. h.told };
-}
-
-impl Hearing for TeamHeard {
-    ghost heard = { λ h. h };
-
-    fn told(&self) -> Told {
-        self.told
-    }
-}
+pub type TeamHeard = Heard<TeamSeal>;
 
 // Only callbacks call this function.
 pub(crate) fn heard(call: Call, child: u16, count: u8) -> TeamHeard
     ensures { result ≡ record { call = call; child = child; count = count } }
 {
-    TeamHeard {
-        told: Told { call, child, count },
-    }
+    Heard::new(TeamSeal(()), call, child, count)
 }
+
+/// What a hart takes from a team.
+pub type TeamWork<'p> = Work<'p>;
 
 /// The scheduler of one `team`. It has the members that haven't begun the current phase, the contexts that are ready to go on,
 /// and the wishes of its children. It also has the barrier of the phase, and the store that the earlier phases left.

@@ -12,7 +12,7 @@ use Rattle.step_eval.specs.contracts.nested.Nested as Nested
 use Rattle.sched_api.specs.contracts.agenda.Agenda as Agenda
 use Rattle.pipe_sched.specs.contracts.slot.Slot as Slot
 use Rattle.pipe_sched.specs.contracts.state.PipeState as PipeState
-use Rattle.pipe_sched.specs.contracts.work.PipeWork as PipeWork
+use Rattle.step_eval.specs.contracts.work.Work as Work
 use Rattle.pipe_sched.specs.contracts.pipe.Pipe as Pipe
 use Rattle.pipe_sched.specs.contracts.shared.SharedPipe as SharedPipe
 
@@ -38,10 +38,10 @@ module _ (l : NamedLft) where
   state_send : IsSend (PipeState.the_row l)
   state_send = let nested = nested_send in let slot = slot_send in search (crosses, sendable) depth 60 fits 20000
 
-  work_send : IsSend (PipeWork.the_row l)
+  work_send : IsSend (Work.the_row l)
   work_send = let job = job_send in let paused = paused_send in search (crosses, sendable) depth 60 fits 20000
 
-  agenda_send : IsSend (Agenda.the_row (PipeWork.the_row l))
+  agenda_send : IsSend (Agenda.the_row (Work.the_row l))
   agenda_send = let work = work_send in search (crosses, sendable) depth 60 fits 20000
 
   pipe_send : IsSend (Pipe.the_row l)

@@ -4,16 +4,16 @@ use Rattle.array_jobs.specs.Jobs.{JobParts}
 use Rattle.sched_api.specs.declared.scheduler.Next.{Next}
 use Rattle.sched_api.specs.declared.scheduler.Next.TheVariants.{Run, Lend, Nothing}
 use Rattle.sched_api.specs.Agenda.{AgendaParts, TakesNext, GivesReady}
-use Rattle.pipe_sched.specs.declared.work.PipeWork.{PipeWork}
-use Rattle.pipe_sched.specs.declared.work.PipeWork.TheVariants.{Begin}
+use Rattle.step_eval.specs.declared.work.Work.{Work}
+use Rattle.step_eval.specs.declared.work.Work.TheVariants.{Begin}
 use Rattle.pipe_sched.specs.Slots.{PipeParts}
 use Rattle.pipe_sched.specs.Pipes.{GivesAfterFailing}
 use Rattle.pipe_sched.specs.Schedulers.{SchedulerParts, Answers}
 
-abbrev pub scheduler_model : PipeParts → AgendaParts PipeWork → SchedulerParts
+abbrev pub scheduler_model : PipeParts → AgendaParts Work → SchedulerParts
 scheduler_model state agenda = record { state = state; agenda = agenda }
 
-pub answers_begun : (state after : PipeParts) (agenda later : AgendaParts PipeWork) (job : JobParts) → GivesReady agenda None later →
+pub answers_begun : (state after : PipeParts) (agenda later : AgendaParts Work) (job : JobParts) → GivesReady agenda None later →
     GivesAfterFailing state (Some job) after → Answers (scheduler_model state agenda) (Run (Begin job)) (scheduler_model after later)
 answers_begun state after agenda later job none gives = inr (record {
   none_ready = none.0;
@@ -24,13 +24,13 @@ answers_begun state after agenda later job none gives = inr (record {
 })
 
 -- If no piece is due, the agenda has at most a wish.
-pub answers_rest : (state after : PipeParts) (agenda later last : AgendaParts PipeWork) (next : Next PipeWork) → agenda.unbegun ≡ [] → GivesReady agenda None later →
+pub answers_rest : (state after : PipeParts) (agenda later last : AgendaParts Work) (next : Next Work) → agenda.unbegun ≡ [] → GivesReady agenda None later →
     GivesAfterFailing state None after → TakesNext later next last → Answers (scheduler_model state agenda) next (scheduler_model after last)
 answers_rest state after agenda later last next empty none gives takes =
-    let P : AgendaParts PipeWork → Type 0 = λ a. TakesNext a next last in
+    let P : AgendaParts Work → Type 0 = λ a. TakesNext a next last in
     by_next next (subst P none.1 takes)
   where
-    by_next : (next : Next PipeWork) → TakesNext agenda next last → Answers (scheduler_model state agenda) next (scheduler_model after last)
+    by_next : (next : Next Work) → TakesNext agenda next last → Answers (scheduler_model state agenda) next (scheduler_model after last)
     by_next (Run work) (inl ready) = let first = ready.first in let nothing = none.0 in absurd (cc (nothing, first))
     by_next (Run work) (inr taken) = let first = taken.first in absurd (cc (empty, first))
     by_next (Lend child) wish = inr (record {

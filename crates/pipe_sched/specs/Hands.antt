@@ -11,8 +11,8 @@ use Rattle.pipe_sched.specs.declared.hand.PipeHand.{PipeHand}
 use Rattle.pipe_sched.specs.declared.looks.Found.{Found}
 use Rattle.pipe_sched.specs.declared.looks.Found.TheVariants as found
 use Rattle.pipe_sched.specs.declared.looks.Looks.{Looks}
-use Rattle.pipe_sched.specs.declared.work.PipeWork.{PipeWork}
-use Rattle.pipe_sched.specs.declared.work.PipeWork.TheVariants.{Begin, Ready}
+use Rattle.step_eval.specs.declared.work.Work.{Work}
+use Rattle.step_eval.specs.declared.work.Work.TheVariants.{Begin, Ready}
 use Rattle.pipe_sched.specs.Slots.{IsFull, MayFail, failed_pipe}
 use Rattle.pipe_sched.specs.Pipes.{Deposits}
 use Rattle.pipe_sched.specs.Schedulers.{SchedulerParts, Answers, Hears, Takes, with_state}
@@ -24,19 +24,19 @@ abbrev pub Sees : Looks → Found → Looks → Type 0
 Sees before what after = Rose before.count after.count × (after.last ≡ Some what)
 
 -- The kind of a look's result, by the action that the pipe returns.
-abbrev pub found_in : Next PipeWork → Found
+abbrev pub found_in : Next Work → Found
 found_in (Run (Begin job)) = found.Due job.place job.phase
 found_in (Run (Ready context)) = found.Ready
 found_in (Lend child) = found.Wish child
 found_in Nothing = found.NoneLeft
 
 -- A look finds the action that the pipe has for the hart, or that the pipe was handed out.
-abbrev pub found_by : Option SchedulerParts → Next PipeWork → Found
+abbrev pub found_by : Option SchedulerParts → Next Work → Found
 found_by None next = found.HandedOut
 found_by (Some pipe) next = found_in next
 
 -- The pipe returns its action for the hart, and `Nothing` if it was handed out.
-abbrev pub AnswersUnder : Option SchedulerParts → Next PipeWork → Option SchedulerParts → Type 0
+abbrev pub AnswersUnder : Option SchedulerParts → Next Work → Option SchedulerParts → Type 0
 AnswersUnder None next after = (next ≡ Nothing) × (after ≡ None)
 AnswersUnder (Some pipe) next None = ⊥
 AnswersUnder (Some pipe) next (Some after) = Answers pipe next after
@@ -62,7 +62,7 @@ HearsUnder (Some pipe) told None = ⊥
 HearsUnder (Some pipe) told (Some after) = Hears pipe told after
 
 -- The pipe takes a ready context or returns it. A pipe that was handed out returns it.
-abbrev pub TakesUnder : Option SchedulerParts → PipeWork → Result (Unit {0}) PipeWork
+abbrev pub TakesUnder : Option SchedulerParts → Work → Result (Unit {0}) Work
     → Option SchedulerParts → Type 0
 TakesUnder None c answer after = (answer ≡ Err c) × (after ≡ None)
 TakesUnder (Some pipe) c answer None = ⊥
@@ -88,7 +88,7 @@ abbrev pub HasFound : {R : Type 0} → PipeHand R → Found → PipeHand R → T
 HasFound before what after = (after.shared ≡ before.shared) × Sees before.looks what after.looks
 
 -- `enter` returns the action that a look of the call found, or `Nothing` because the pipe was handed out.
-abbrev pub AnswersHand : {R : Type 0} → PipeHand R → Next PipeWork → PipeHand R → Type 0
+abbrev pub AnswersHand : {R : Type 0} → PipeHand R → Next Work → PipeHand R → Type 0
 AnswersHand before next after =
     HasFound before (found_in next) after
     ⊎ ((next ≡ Nothing) × HasFound before found.HandedOut after)

@@ -4,10 +4,9 @@ ghost use Rattle.pipe_sched.specs.Slots.{IsFull};
 ghost use Rattle.pipe_sched.specs.Hands.{GivesBack, AnswersHand};
 
 use crate::looks::Looks;
-use crate::pipe::{Pipe, PipeHeard, heard};
+use crate::pipe::{Pipe, PipeHeard, PipeWork, heard};
 use crate::shared::SharedPipe;
 use crate::under_lock;
-use crate::work::PipeWork;
 use array_jobs::Piece;
 use join_book::Deposit;
 use sched_api::{Call, Next, Scheduler};
@@ -24,7 +23,6 @@ const SNOOZES: u32 = 100;
 /// context.
 ///
 /// If `enter` finds nothing and the pipe isn't full, it snoozes, a bounded number of times, until the pipe shows beside the
-/// lock that it has something for a hart. Then it takes the lock again.
 /// lock that it has something for a hart, and looks again.
 #[derive(Drop)]
 pub struct PipeHand<'a, 'p, R> {

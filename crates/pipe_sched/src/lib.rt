@@ -18,11 +18,9 @@ mod shown;
 mod slot;
 mod state;
 mod under_lock;
-mod work;
 
 pub use hand::PipeHand;
 pub use looks::{Found, Looks};
-pub use pipe::{Pipe, PipeHeard};
+pub use pipe::{Pipe, PipeHeard, PipeSeal, PipeWork};
 pub use shared::SharedPipe;
 pub use state::PipeState;
-pub use work::PipeWork;

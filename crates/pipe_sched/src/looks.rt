@@ -2,8 +2,7 @@
 ghost use Rattle.std.specs.Prelude.{◌≡◌, Some};
 ghost use Rattle.pipe_sched.specs.Hands.{Sees, found_in, found_by, AnswersUnder};
 
-use crate::pipe::Pipe;
-use crate::work::PipeWork;
+use crate::pipe::{Pipe, PipeWork};
 use sched_api::{Next, Scheduler};
 
 /// The result of a look under the lock of a pipe.

@@ -1,6 +1,5 @@
 //! Pipes.
 ghost use Rattle.std.specs.Prelude.{◌≡◌, ◌↔◌, IsTrue, IfOk, IsErr, Some};
-ghost use Rattle.sched_api.specs.declared.hearing.Told.{Told};
 ghost use Rattle.sched_api.specs.Wishes.{with_wishes};
 ghost use Rattle.array_tree.specs.Trees.{statement_of};
 ghost use Rattle.step_eval.specs.declared.shape.Kind.TheVariants as kind;
@@ -11,46 +10,31 @@ ghost use Rattle.pipe_sched.specs.Pipes.{Deposits, IsUncrossed};
 ghost use Rattle.pipe_sched.specs.Schedulers.{new_scheduler, roomy_scheduler, with_state, Answers, Hears, Takes};
 
 use crate::state::PipeState;
-use crate::work::PipeWork;
 use array_eval::Overlay;
 use array_jobs::Piece;
 use join_book::Deposit;
-use sched_api::{Agenda, Call, Hearing, MOST_WISHES, Next, Scheduler, Told};
+use sched_api::{Agenda, Call, Heard, MOST_WISHES, Next, Scheduler};
 use std::alloc::{AllocError, Global};
 use std::collections::VecDeque;
 use std::marker::Model;
-use step_eval::Nested;
+use step_eval::{Nested, Work};
+
+/// What makes the receipts of a pipe. Only this crate can make it.
+#[derive(Drop)]
+pub struct PipeSeal(());
 
 /// The receipt of a callback of a pipe.
-#[derive(Drop)]
-pub struct PipeHeard {
-    told: Told,
-}
-
-impl Model for PipeHeard {
-    ghost use Rattle.sched_api.specs.declared.hearing.Told.{Told};
-
-    ghost Value = { Told };
-
-    ghost view = { λ h. h.told };
-}
-
-impl Hearing for PipeHeard {
-    ghost heard = { λ h. h };
-
-    fn told(&self) -> Told {
-        self.told
-    }
-}
+pub type PipeHeard = Heard<PipeSeal>;
 
 // Only callbacks call this function.
 pub(crate) fn heard(call: Call, child: u16, count: u8) -> PipeHeard
     ensures { result ≡ record { call = call; child = child; count = count } }
 {
-    PipeHeard {
-        told: Told { call, child, count },
-    }
+    Heard::new(PipeSeal(()), call, child, count)
 }
+
+/// What a hart takes from a pipe.
+pub type PipeWork<'p> = Work<'p>;
 
 /// The scheduler of one `team` whose members overtake one another. It has the state of its pieces, the contexts that are ready
 /// to go on, and the wishes of its children.

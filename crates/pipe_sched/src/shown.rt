@@ -1,6 +1,5 @@
 //! The state that a shared pipe shows beside its lock.
-use crate::pipe::Pipe;
-use crate::work::PipeWork;
+use crate::pipe::{Pipe, PipeWork};
 use crossbeam_utils::Backoff;
 use sched_api::Next;
 use std::sync::atomic::{AtomicBool, AtomicU64, Ordering};

@@ -3,8 +3,7 @@ ghost use Rattle.std.specs.Prelude.{◌≡◌, IfErr};
 ghost use Rattle.sched_api.specs.Calls.{unregistered_told, requested_told};
 ghost use Rattle.pipe_sched.specs.Hands.{DepositsUnder, FailsUnder, HearsUnder, TakesUnder, TakesFull};
 
-use crate::pipe::{Pipe, PipeHeard, heard};
-use crate::work::PipeWork;
+use crate::pipe::{Pipe, PipeHeard, PipeWork, heard};
 use array_jobs::Piece;
 use join_book::Deposit;
 use sched_api::{Call, Scheduler};

@@ -2,6 +2,8 @@
 ghost use Rattle.std.specs.Prelude.{◌≡◌};
 ghost use Rattle.sched_api.specs.declared.hearing.Told.{Told};
 
+use std::marker::{Model, PhantomData};
+
 /// The callbacks of which a receipt is made.
 #[derive(Clone, Copy, Debug, PartialEq, Eq)]
 pub enum Call {
@@ -35,4 +37,40 @@ pub trait Hearing: Drop {
     /// The callback that was called.
     fn told(&self) -> Told
         ensures { result ≡ heard self.now };
+}
+
+/// The receipt of a scheduler whose seal is `S`. Who has no `S` can't make one, so the crate of a scheduler keeps its seal.
+#[derive(Drop)]
+pub struct Heard<S> {
+    told: Told,
+    of: PhantomData<S>,
+}
+
+impl<S> Model for Heard<S> {
+    ghost use Rattle.sched_api.specs.declared.hearing.Told.{Told};
+
+    ghost Value = { Told };
+
+    ghost view = { λ h. h.told };
+}
+
+impl<S: Drop> Heard<S> {
+    /// The receipt of this callback. Call it in the callback alone.
+    pub fn new(seal: S, call: Call, child: u16, count: u8) -> Heard<S>
+        ensures { result ≡ record { call = call; child = child; count = count } }
+    {
+        let _ = seal;
+        Heard {
+            told: Told { call, child, count },
+            of: PhantomData,
+        }
+    }
+}
+
+impl<S> Hearing for Heard<S> {
+    ghost heard = { λ h. h };
+
+    fn told(&self) -> Told {
+        self.told
+    }
 }

@@ -18,7 +18,7 @@ mod scheduler;
 mod wishes;
 
 pub use agenda::{Agenda, MOST_WISHES};
-pub use hearing::{Call, Hearing, Told};
+pub use hearing::{Call, Heard, Hearing, Told};
 pub use primitives::{
     sched_enter, sched_reenter, sched_register, sched_request, sched_unregister, sched_yield,
 };

@@ -8,24 +8,14 @@ use std::test::Fail;
 use transfer_table::Plan;
 
 #[derive(Drop)]
-struct Note {
-    told: Told,
-}
+struct Seal;
 
-impl Hearing for Note {
-    ghost heard = { λ h. h.told };
-
-    fn told(&self) -> Told {
-        self.told
-    }
-}
+type Note = Heard<Seal>;
 
 fn heard(call: Call, child: u16, count: u8) -> Note
-    ensures { result.told ≡ record { call = call; child = child; count = count } }
+    ensures { result ≡ record { call = call; child = child; count = count } }
 {
-    Note {
-        told: Told { call, child, count },
-    }
+    Heard::new(Seal, call, child, count)
 }
 
 // Counts the calls of `enter`.

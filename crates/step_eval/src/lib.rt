@@ -14,6 +14,7 @@ mod nested;
 mod reported;
 mod shape;
 mod stage;
+mod work;
 
 pub use computing::compute;
 pub use found::Found;
@@ -25,3 +26,4 @@ pub use machine::StepMachine;
 pub use nested::Nested;
 pub use shape::Kind;
 pub use stage::Stage;
+pub use work::Work;

@@ -11,7 +11,7 @@ mod ring;
 mod turns;
 
 pub use hand::{SharedTurns, TurnsHand};
-pub use turns::{Turns, TurnsHeard};
+pub use turns::{Turns, TurnsHeard, TurnsSeal};
 
 #[cfg(test)]
 mod tests;

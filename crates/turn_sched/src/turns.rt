@@ -1,43 +1,25 @@
 //! The scheduler of one thread.
 ghost use Rattle.std.specs.Prelude.{◌≡◌, IfOk};
-ghost use Rattle.sched_api.specs.declared.hearing.Told.{Told};
 ghost use Rattle.turn_sched.specs.Turns.{TurnsState, new_turns, RunsOrLends, HearsOf, PutsLast};
 
 use crate::ring::Ring;
-use sched_api::{Call, Hearing, Next, Scheduler, Told};
+use sched_api::{Call, Heard, Next, Scheduler};
 use std::alloc::{AllocError, Global};
 use std::collections::VecDeque;
 use std::marker::Model;
 
-/// The receipt of a callback.
+/// What makes the receipts of this scheduler. Only this crate can make it.
 #[derive(Drop)]
-pub struct TurnsHeard {
-    told: Told,
-}
+pub struct TurnsSeal(());
 
-impl Model for TurnsHeard {
-    ghost use Rattle.sched_api.specs.declared.hearing.Told.{Told};
+/// The receipt of a callback of this scheduler.
+pub type TurnsHeard = Heard<TurnsSeal>;
 
-    ghost Value = { Told };
-
-    ghost view = { λ h. h.told };
-}
-
-impl Hearing for TurnsHeard {
-    ghost heard = { λ h. h };
-
-    fn told(&self) -> Told {
-        self.told
-    }
-}
-
-// Only the callbacks below call this function.
+// Only callbacks call this function.
 fn heard(call: Call, child: u16, count: u8) -> TurnsHeard
     ensures { result ≡ record { call = call; child = child; count = count } }
 {
-    TurnsHeard {
-        told: Told { call, child, count },
-    }
+    Heard::new(TurnsSeal(()), call, child, count)
 }
 
 /// A scheduler of contexts of any type. A hart that comes runs the first context. If there is none, the hart is lent to the

@@ -1,5 +1,5 @@
 use Rattle.std.proofs.Common.{◌≡◌, map, take}
-use Rattle.forkjoin_sched.specs.declared.work.PoolWork.TheVariants.{Begin}
+use Rattle.step_eval.specs.declared.work.Work.TheVariants.{Begin}
 use Rattle.forkjoin_sched.proofs.pool.unbegun_work.Given as goal
 
 abbrev pub invariant-loop-job : goal.invariant-loop-job

@@ -1,5 +1,5 @@
 use Rattle.std.proofs.Common.{◌≡◌, map, take}
-use Rattle.loop_team.specs.declared.work.TeamWork.TheVariants.{Begin}
+use Rattle.step_eval.specs.declared.work.Work.TheVariants.{Begin}
 use Rattle.loop_team.proofs.team.unbegun_work.Given as goal
 
 abbrev pub invariant-loop-job : goal.invariant-loop-job

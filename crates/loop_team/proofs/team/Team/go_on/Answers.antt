@@ -2,7 +2,7 @@ use Rattle.std.proofs.Common.{◌+◌, map, sym, ap, ◌∙◌, subst}
 use Rattle.step_eval.specs.Nests.{nested_of}
 use Rattle.step_eval.specs.Inside.Computed.{HasReached}
 use Rattle.join_book.specs.Books.{BookParts, IsFull}
-use Rattle.loop_team.specs.declared.work.TeamWork.TheVariants.{Begin}
+use Rattle.step_eval.specs.declared.work.Work.TheVariants.{Begin}
 use Rattle.loop_team.specs.Teams.{TeamParts, AreJobsIn, IsPhase}
 use Rattle.loop_team.proofs.team.Team.go_on.Goals as goal
 

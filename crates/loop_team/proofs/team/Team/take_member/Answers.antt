@@ -1,5 +1,5 @@
 use Rattle.std.proofs.Common.{map, subst, ap, ◌∙◌}
-use Rattle.loop_team.specs.declared.work.TeamWork.TheVariants.{Begin}
+use Rattle.step_eval.specs.declared.work.Work.TheVariants.{Begin}
 use Rattle.loop_team.proofs.TeamLemmas.{member_in_order, is_member, IsMember}
 use Rattle.loop_team.proofs.team.Team.take_member.Goals as goal
 use Rattle.loop_team.proofs.team.Team.take_member.Goals.{in-Some-Begin, in-None}

@@ -1,5 +1,5 @@
 use Rattle.std.proofs.Common.{map}
-use Rattle.loop_team.specs.declared.work.TeamWork.TheVariants.{Begin}
+use Rattle.step_eval.specs.declared.work.Work.TheVariants.{Begin}
 use Rattle.loop_team.proofs.TeamLemmas.{next_in_order}
 use Rattle.loop_team.proofs.team.TeamScheduler.enter.Goals as goal
 

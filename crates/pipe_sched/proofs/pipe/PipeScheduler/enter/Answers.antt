@@ -1,7 +1,7 @@
 use Rattle.std.proofs.Common.{subst, ap, ◌∙◌}
 use Rattle.sched_api.specs.declared.scheduler.Next.TheVariants.{Run}
 use Rattle.step_eval.specs.Nests.{NestedParts}
-use Rattle.pipe_sched.specs.declared.work.PipeWork.TheVariants.{Begin}
+use Rattle.step_eval.specs.declared.work.Work.TheVariants.{Begin}
 use Rattle.pipe_sched.specs.Schedulers.{SchedulerParts, Answers}
 use Rattle.pipe_sched.proofs.Failing.{given_stays}
 use Rattle.pipe_sched.proofs.Scheduling.{scheduler_model, answers_begun, answers_rest}

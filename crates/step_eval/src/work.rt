@@ -1,11 +1,11 @@
-//! The work of a pipe for its harts.
+//! What the scheduler of a construct has for its harts.
+use crate::machine::StepMachine;
 use array_jobs::Job;
 use contexts::Paused;
-use step_eval::StepMachine;
 
-/// What a hart takes from a pipe.
+/// What a hart takes from the scheduler of a construct.
 #[derive(Drop)]
-pub enum PipeWork<'p> {
+pub enum Work<'p> {
     /// A piece that hasn't begun.
     Begin(Job<'p>),
     /// A context that waited, and is ready to go on.
