@@ -80,8 +80,8 @@ module _ {P S : Type 0} (seen : P → PortView) where
       let before : get_or (reverse xs) (length xs - 1 - k) d ≡ get_or xs k d =
       get_or-reverse xs (length xs - 1 - k) d (omega (arith, below)) ∙ ap (λ i. get_or xs i d) (omega (arith, below)) in
       let after : get_or (reverse ys) k d ≡ get_or ys (length xs - 1 - k) d = get_or-reverse ys k d (omega (arith, below, long, turned)) ∙ ap (λ i. get_or ys i d) there in
-      subst (λ x. HasRun (seen x.port) x.schedulers.hart_local x.job (seen (get_or (reverse ys) k d).port) (get_or (reverse ys) k d).schedulers.hart_local (get_or (reverse ys) k d).piece) before
-      (subst (λ y. HasRun (seen (get_or (reverse xs) (length xs - 1 - k) d).port) (get_or (reverse xs) (length xs - 1 - k) d).schedulers.hart_local (get_or (reverse xs) (length xs - 1 - k) d).job (seen y.port) y.schedulers.hart_local y.piece) (sym after)
+      subst (λ x. HasRun (seen x.port) x.sites.hart_local x.job (seen (get_or (reverse ys) k d).port) (get_or (reverse ys) k d).sites.hart_local (get_or (reverse ys) k d).piece) before
+      (subst (λ y. HasRun (seen (get_or (reverse xs) (length xs - 1 - k) d).port) (get_or (reverse xs) (length xs - 1 - k) d).sites.hart_local (get_or (reverse xs) (length xs - 1 - k) d).job (seen y.port) y.sites.hart_local y.piece) (sym after)
       (AllZip-get_or _ (reverse xs) ys (length xs - 1 - k) d d ran inside)))
 
   -- The same harts have the same ports.
@@ -92,13 +92,13 @@ module _ {P S : Type 0} (seen : P → PortView) where
   ports_stay (x ∷ xs) (y ∷ ys) same = (same.0.0, ports_stay xs ys same.1)
 
   -- The same harts have the same hart-local states.
-  pub rows_stay : (xs ys : List (Hart P S)) → AreTheSame seen xs ys → map (λ hart. hart.schedulers.hart_local.rows) ys ≡ map (λ hart. hart.schedulers.hart_local.rows) xs
+  pub rows_stay : (xs ys : List (Hart P S)) → AreTheSame seen xs ys → map (λ hart. hart.sites.hart_local.rows) ys ≡ map (λ hart. hart.sites.hart_local.rows) xs
   rows_stay [] [] same = refl
   rows_stay [] (y ∷ ys) same = absurd same
   rows_stay (x ∷ xs) [] same = absurd same
   rows_stay (x ∷ xs) (y ∷ ys) same = λ i. (same.0.1 i).rows ∷ rows_stay xs ys same.1 i
 
-  pub claims_stay : (xs ys : List (Hart P S)) → AreTheSame seen xs ys → map (λ hart. hart.schedulers.hart_local.seat) ys ≡ map (λ hart. hart.schedulers.hart_local.seat) xs
+  pub claims_stay : (xs ys : List (Hart P S)) → AreTheSame seen xs ys → map (λ hart. hart.sites.hart_local.seat) ys ≡ map (λ hart. hart.sites.hart_local.seat) xs
   claims_stay [] [] same = refl
   claims_stay [] (y ∷ ys) same = absurd same
   claims_stay (x ∷ xs) [] same = absurd same

@@ -3,3 +3,4 @@ pub mod Crews
 mod Boards
 mod Seats
 mod SameHarts
+mod Sites

@@ -63,11 +63,11 @@ pub record AreBack {Q : Type 0} (seen : Q → PortView) (name : List ℕ) (p : P
 -- Each has done its part of a run.
 abbrev pub HaveRun : {P S : Type 0} → (P → PortView) → List (Hart P S) → List (Hart P S) → Type 0
 HaveRun seen = AllZip (λ before after.
-    HasRun (seen before.port) before.schedulers.hart_local before.job
-    (seen after.port) after.schedulers.hart_local after.piece)
+    HasRun (seen before.port) before.sites.hart_local before.job
+    (seen after.port) after.sites.hart_local after.piece)
 
 -- Each is the same hart, with the same hart-local state.
 abbrev pub AreTheSame : {P S : Type 0} → (P → PortView) → List (Hart P S) → List (Hart P S) → Type 0
 AreTheSame seen = AllZip (λ before after.
     IsSameHart (seen before.port) (seen after.port)
-    × (after.schedulers.hart_local ≡ before.schedulers.hart_local))
+    × (after.sites.hart_local ≡ before.sites.hart_local))

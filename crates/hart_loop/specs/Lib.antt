@@ -1,4 +1,3 @@
 pub mod Openings
-pub mod Offers
+pub mod Facts
 pub mod Harts
-pub mod NoAccounts

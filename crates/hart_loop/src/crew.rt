@@ -9,7 +9,7 @@ ghost use Rattle.shared_sites.specs.HartLocals.{AreHartLocals};
 ghost use Rattle.hart_loop.specs.Harts.{AllStart, AreSame, HaveRun, AreTheSame};
 
 use crate::hart::{Hart, work};
-use crate::harts::HartSchedulers;
+use crate::harts::HartSites;
 use crate::members::TeamMode;
 use array_jobs::{Job, Piece, body_job};
 use base_sched::{Base, SharedBase};
@@ -236,10 +236,10 @@ fn crew<'x, 'p: 'x, P: Drop>(
     ensures ports { IfOk result
         (λ harts. map (λ hart. hart.port) harts.items ≡ crew_parts.ports.items) }
     ensures rows { IfOk result
-        (λ harts. map (λ hart. hart.schedulers.hart_local.rows) harts.items
+        (λ harts. map (λ hart. hart.sites.hart_local.rows) harts.items
         ≡ map rows_identity crew_parts.rows.items) }
     ensures claims { IfOk result
-        (λ harts. map (λ hart. hart.schedulers.hart_local.seat) harts.items
+        (λ harts. map (λ hart. hart.sites.hart_local.seat) harts.items
         ≡ map seat_identity crew_parts.claims.items) }
 {
     let CrewParts {
@@ -255,7 +255,7 @@ fn crew<'x, 'p: 'x, P: Drop>(
         };
         harts.push(Hart {
             port,
-            schedulers: HartSchedulers::new(lines(alloc, cells)?, own, members),
+            sites: HartSites::new(lines(alloc, cells)?, own, members),
             base,
             job: None,
             piece: None,
@@ -325,10 +325,10 @@ fn crew_parts_of<'x, 'p: 'x, P: Drop>(
         (λ crew_parts. crew_parts.ports.items ≡ map (λ hart. hart.port) harts.entry.items) }
     ensures rows { IfOk result
         (λ crew_parts. map rows_identity crew_parts.rows.items
-        ≡ map (λ hart. hart.schedulers.hart_local.rows) harts.entry.items) }
+        ≡ map (λ hart. hart.sites.hart_local.rows) harts.entry.items) }
     ensures claims { IfOk result
         (λ crew_parts. map seat_identity crew_parts.claims.items
-        ≡ map (λ hart. hart.schedulers.hart_local.seat) harts.entry.items) }
+        ≡ map (λ hart. hart.sites.hart_local.seat) harts.entry.items) }
 {
     let mut crew_parts = CrewParts {
         ports: Vec::with_capacity(alloc, harts.len())?,

@@ -3,7 +3,7 @@ ghost use Rattle.std.specs.Prelude.{◌≡◌, IfOk};
 ghost use Rattle.hart_loop.specs.Harts.{StartsIn, IsSameHart, TopSitesSeenGone, HasRun};
 
 use crate::hart_site::HartSite;
-use crate::harts::HartSchedulers;
+use crate::harts::HartSites;
 use crate::in_directory::InDirectory;
 use array_jobs::{Job, Piece};
 use base_sched::SharedBase;
@@ -18,7 +18,7 @@ use std::sync::Wait;
 #[derive(Drop)]
 pub struct Hart<'a, 'p, P, S> {
     pub port: P,
-    pub schedulers: HartSchedulers<'a, 'p, S>,
+    pub sites: HartSites<'a, 'p, S>,
     pub base: &'a SharedBase,
     pub job: Option<Job<'p>>,
     pub piece: Option<Piece<'p>>,
@@ -28,16 +28,16 @@ impl<'a, 'p, P, S: Drop> Hart<'a, 'p, P, S> {
     /// The hart's port, and the hart-local state that it was lent.
     pub fn into_parts(self) -> (P, HartLocal<'a>)
         ensures port { result.0 ≡ self.entry.port }
-        ensures hart_local { result.1 ≡ self.entry.schedulers.hart_local }
+        ensures hart_local { result.1 ≡ self.entry.sites.hart_local }
     {
         let Hart {
             port,
-            schedulers,
+            sites,
             base: _,
             job: _,
             piece: _,
         } = self;
-        (port, schedulers.into_hart_local())
+        (port, sites.into_hart_local())
     }
 }
 
@@ -59,8 +59,8 @@ pub fn work<'a, 'p, P: PatientPort, R: Wait, S: InDirectory<'p>, F: Fn(u8, u16, 
 )
     requires callable { F.IsAlwaysCallable pass.now }
     requires starts { StartsIn tree.now (P.seen hart.old.port) }
-    ensures { HasRun (P.seen hart.old.port) hart.old.schedulers.hart_local hart.old.job
-        (P.seen hart.new.port) hart.new.schedulers.hart_local hart.new.piece }
+    ensures { HasRun (P.seen hart.old.port) hart.old.sites.hart_local hart.old.job
+        (P.seen hart.new.port) hart.new.sites.hart_local hart.new.piece }
 {
     match hart.job.take() {
         Some(job) => {
@@ -76,9 +76,8 @@ pub fn work<'a, 'p, P: PatientPort, R: Wait, S: InDirectory<'p>, F: Fn(u8, u16, 
                 &|hart, job: &Job| pass(hart, job.site, job.phase, job.place),
                 &mut hart.port,
                 hold,
-                &mut hart.schedulers,
+                &mut hart.sites,
                 &mut base,
-                false,
             );
         }
     }
@@ -97,7 +96,7 @@ fn run_body<'a, 'p, P: PatientPort, R: Wait, S: InDirectory<'p>, F: Fn(u8, u16, 
     requires callable { F.IsAlwaysCallable pass.now }
     requires starts { StartsIn tree.now (P.seen hart.old.port) }
     ensures same { IsSameHart (P.seen hart.old.port) (P.seen hart.new.port) }
-    ensures hart_local { hart.new.schedulers.hart_local ≡ hart.old.schedulers.hart_local }
+    ensures hart_local { hart.new.sites.hart_local ≡ hart.old.sites.hart_local }
     ensures gone { TopSitesSeenGone (P.seen hart.new.port) }
     ensures piece { IfOk result (λ piece. piece.job ≡ job.entry) }
 {
@@ -109,7 +108,7 @@ fn run_body<'a, 'p, P: PatientPort, R: Wait, S: InDirectory<'p>, F: Fn(u8, u16, 
         &|hart, job: &Job| pass(hart, job.site, job.phase, job.place),
         &mut hart.port,
         hold,
-        &mut hart.schedulers,
+        &mut hart.sites,
         &mut base,
         job,
     );

@@ -1,8 +1,9 @@
 //! One site, as one of several harts has it.
 ghost use Rattle.std.specs.Prelude.{◌≡◌, IfOk, IsSome, IfSome, Some, option_map};
 ghost use Rattle.step_eval.specs.Nests.{NestedParts, nested_of, nested_writes};
-ghost use Rattle.shared_sites.specs.Places.{Fits};
-ghost use Rattle.shared_sites.specs.Hands.{IsCompleted};
+ghost use Rattle.shared_sites.specs.Places.{Fits, site_at};
+ghost use Rattle.shared_sites.specs.Completed.{IsCompleted};
+ghost use Rattle.hart_loop.specs.Facts.{number_in};
 ghost use Rattle.hart_loop.specs.Openings.{IsOpened, kept_in};
 
 use crate::in_directory::InDirectory;
@@ -10,6 +11,7 @@ use crate::members::TeamMode;
 use crate::opened::{publish, shared_site, written_by};
 use array_eval::Overlay;
 use base_sched::SharedBase;
+use crossbeam_utils::Backoff;
 use forkjoin_sched::PieceBatch;
 use shared_sites::{Completed, HartLocal, SchedulerRef, SharedSite, SiteCell};
 use std::alloc::{AllocError, Global};
@@ -34,8 +36,10 @@ pub struct HartSite<'a, 'p, S> {
     pub(crate) opened: Option<Nested<'p>>,
     // The site's depth.
     pub(crate) level: u8,
-    // The greatest number of tasks that the hart may still get here. No run comes near its end.
+    // The greatest number of actions that the hart may still get here. No run comes near its end.
     pub(crate) turns: u64,
+    // The pauses between the tries to enter.
+    pub(crate) backoff: Backoff,
     // The pieces of the site's pool that this hart made and hasn't handed over.
     pub(crate) batch: Option<PieceBatch<'p>>,
 }
@@ -47,6 +51,7 @@ impl<'a, 'p, S: Drop> Drop for HartSite<'a, 'p, S> {
             opened: _,
             level: _,
             turns: _,
+            backoff: _,
             batch: _,
         } = self;
     }
@@ -67,6 +72,7 @@ impl<'a, 'p, S: InDirectory<'p>> HartSite<'a, 'p, S> {
             opened,
             level,
             turns: u64::MAX,
+            backoff: Backoff::new(),
             batch: None,
         }
     }
@@ -80,7 +86,8 @@ impl<'a, 'p, S: InDirectory<'p>> HartSite<'a, 'p, S> {
 
     /// A site that another hart opened.
     pub(crate) fn found(shared: &'a S, level: u8) -> HartSite<'a, 'p, S>
-        ensures { IsOpened S.held result }
+        ensures made { IsOpened S.held result }
+        ensures number { number_in S.held result ≡ site_at (S.held shared.now) }
     {
         HartSite::new(Placement::Published(shared), None, level)
     }
@@ -117,6 +124,16 @@ impl<'a, 'p, S: InDirectory<'p>> HartSite<'a, 'p, S> {
             Placement::Base(_) => None,
             Placement::Published(shared) => Some(shared.shared()),
             Placement::Kept(shared) => Some(shared.shared()),
+        }
+    }
+
+    /// The site's number; 0 is the base.
+    pub(crate) fn number(&self) -> u16
+        ensures { result ≡ number_in S.held self.now }
+    {
+        match self.shared() {
+            Some(shared) => shared.site(),
+            None => 0,
         }
     }
 

@@ -1,8 +1,6 @@
-//! The schedulers of the sites, as one of several harts has them.
+//! The sites, as one of several harts has them.
 ghost use Rattle.std.specs.Prelude.{◌≡◌};
-ghost use Rattle.hart_loop.specs.NoAccounts.{no_account};
-ghost use Rattle.hart_loop.specs.Offers.{task_reported};
-ghost use Rattle.hart_loop.specs.Openings.{IsOpened};
+ghost use Rattle.hart_loop.specs.Facts.{hart_facts};
 
 use crate::hart_site::{HartSite, ref_in};
 use crate::in_directory::InDirectory;
@@ -11,13 +9,9 @@ use crate::turns::take_turn;
 use array_eval::Overlay;
 use array_jobs::{Job, Piece};
 use array_tree::Block;
-use hart_port::{Port, Taken};
-use hart_work::{Schedulers, Task};
+use hart_work::Sites;
 use job_machines::JobMachines;
-use sched_api::{
-    Lent, Next, Scheduler, sched_enter, sched_register, sched_request, sched_unregister,
-    sched_yield,
-};
+use sched_api::{Call, Next, Told};
 use shared_sites::{HartLocal, SiteCell};
 use std::alloc::{AllocError, Global};
 use std::marker::PhantomData;
@@ -27,23 +21,23 @@ use step_eval::Nested;
 /// The schedulers of the sites, as one of several harts has them. They are lock-protected, so contracts know only the type of
 /// their results.
 #[derive(Drop)]
-pub struct HartSchedulers<'a, 'p, S> {
+pub struct HartSites<'a, 'p, S> {
     lines: Vec<SiteCell<'a, S>>,
     hart_local: HartLocal<'a>,
     members: TeamMode,
     of: PhantomData<&'p Block>,
 }
 
-impl<'a, 'p, S> HartSchedulers<'a, 'p, S> {
+impl<'a, 'p, S> HartSites<'a, 'p, S> {
     /// The schedulers of a hart, by its lines to the cells of all sites, its hart-local state, and the way in which members go on.
     pub fn new(
         lines: Vec<SiteCell<'a, S>>,
         hart_local: HartLocal<'a>,
         members: TeamMode,
-    ) -> HartSchedulers<'a, 'p, S>
+    ) -> HartSites<'a, 'p, S>
         ensures { result.hart_local ≡ hart_local.entry }
     {
-        HartSchedulers {
+        HartSites {
             lines,
             hart_local,
             members,
@@ -55,7 +49,7 @@ impl<'a, 'p, S> HartSchedulers<'a, 'p, S> {
     pub fn into_hart_local(self) -> HartLocal<'a>
         ensures { result ≡ self.entry.hart_local }
     {
-        let HartSchedulers {
+        let HartSites {
             lines: _,
             hart_local,
             members: _,
@@ -65,21 +59,8 @@ impl<'a, 'p, S> HartSchedulers<'a, 'p, S> {
     }
 }
 
-// The task of an action.
-fn task_of<'p>(next: Next<Job<'p>>) -> Task<Job<'p>>
-    ensures { result ≡ task_reported next.entry }
-{
-    match next {
-        Next::Run(job) => Task::Piece(job),
-        Next::Lend(child) => Task::Visit(child),
-        Next::Nothing => Task::Nothing,
-    }
-}
-
-impl<'a, 'p, S: InDirectory<'p>, R: Wait> Schedulers<R, JobMachines<'p>>
-    for HartSchedulers<'a, 'p, S> {
-    ghost use Rattle.hart_loop.specs.Openings.{IsOpened};
-    ghost use Rattle.hart_loop.specs.NoAccounts.{no_account};
+impl<'a, 'p, S: InDirectory<'p>, R: Wait> Sites<R, JobMachines<'p>> for HartSites<'a, 'p, S> {
+    ghost use Rattle.hart_loop.specs.Facts.{hart_facts};
 
     type Site = HartSite<'a, 'p, S>;
 
@@ -91,24 +72,9 @@ impl<'a, 'p, S: InDirectory<'p>, R: Wait> Schedulers<R, JobMachines<'p>>
     // Why: others share the table, so the hart keeps no account of its entries for sites.
     ghost keeps = { ⊥ };
 
-    ghost construct = { λ site. site.opened };
+    ghost facts = { hart_facts S.held };
 
-    // Why: lock-protected state may have changed at every look. So a site owes nothing, and counts as settled as soon as the
-    // scheduler was made for its construct.
-    ghost settled = { λ site. IsOpened S.held site };
-
-    ghost serving = { λ _. no_account };
-
-    ghost left = { λ site. site.turns };
-
-    ghost owed = { λ site _. IsOpened S.held site };
-
-    ghost over = { λ site. IsOpened S.held site };
-
-    ghost lent = { λ _ _. no_account };
-
-    ghost failed = { λ _. ⊥ };
-
+    // Why no more: contracts know only the type of lock-protected state.
     ghost hears = { λ _ _ _. Unit {0} };
 
     fn open(
@@ -129,86 +95,50 @@ impl<'a, 'p, S: InDirectory<'p>, R: Wait> Schedulers<R, JobMachines<'p>>
         site.wishes(&self.hart_local)
     }
 
-    /// Blocks until the site is in the directory.
-    fn find(&mut self, rt: &R, site: u16) -> Option<HartSite<'a, 'p, S>> {
-        let line = self.lines.get_mut(usize::from(site))?;
+    /// Blocks until the site is in the directory. `None` if the directory has the scheduler of another site there.
+    fn find(&mut self, rt: &R, number: u16) -> Option<HartSite<'a, 'p, S>> {
+        let line = self.lines.get_mut(usize::from(number))?;
         let shared = line.until_found(rt);
-        Some(HartSite::found(shared, self.hart_local.level(site)))
+        if shared.shared().site() != number {
+            return None;
+        }
+        Some(HartSite::found(shared, self.hart_local.level(number)))
     }
 
-    fn register<P: Port>(
+    fn number(&self, site: &HartSite<'a, 'p, S>) -> u16 {
+        site.number()
+    }
+
+    fn hear(
         &mut self,
         rt: &R,
-        port: &mut P,
-        hold: P::Hold,
-        around: &mut HartSite<'a, 'p, S>,
+        site: &mut HartSite<'a, 'p, S>,
+        call: Call,
         child: u16,
-    ) -> Result<(), Taken> {
-        let scheduler_ref = around.scheduler_ref(&self.hart_local);
-        self.hart_local
-            .register(rt, scheduler_ref, port, hold, child)
+        count: u8,
+    ) -> Told {
+        let scheduler_ref = site.scheduler_ref(&self.hart_local);
+        self.hart_local.hear(rt, scheduler_ref, call, child, count)
+    }
+
+    /// Blocks if there is nothing to do and the hart stays.
+    fn next(&mut self, rt: &R, site: &mut HartSite<'a, 'p, S>) -> Next<Job<'p>> {
+        take_turn(rt, &mut site.turns);
+        let is_home = site.opened.is_some();
+        let scheduler_ref = ref_in(&site.placement, site.level, &self.hart_local);
+        let batch = &mut site.batch;
+        self.hart_local.next(rt, scheduler_ref, batch, is_home)
+    }
+
+    fn tries_again(&mut self, rt: &R, site: &mut HartSite<'a, 'p, S>) -> bool {
+        take_turn(rt, &mut site.turns);
+        site.backoff.spin();
+        true
     }
 
     fn offer(&mut self, rt: &R, site: &HartSite<'a, 'p, S>) {
         let scheduler_ref = site.scheduler_ref(&self.hart_local);
         self.hart_local.offer(rt, scheduler_ref);
-    }
-
-    fn request<P: Port>(
-        &mut self,
-        rt: &R,
-        port: &mut P,
-        hold: P::Hold,
-        around: &mut HartSite<'a, 'p, S>,
-        child: u16,
-        count: u8,
-    ) {
-        let scheduler_ref = around.scheduler_ref(&self.hart_local);
-        self.hart_local
-            .request(rt, scheduler_ref, port, hold, child, count);
-    }
-
-    fn unregister<P: Port>(
-        &mut self,
-        rt: &R,
-        port: &mut P,
-        hold: P::Hold,
-        around: &mut HartSite<'a, 'p, S>,
-    ) {
-        let scheduler_ref = around.scheduler_ref(&self.hart_local);
-        self.hart_local.unregister(rt, scheduler_ref, port, hold);
-    }
-
-    fn enter<P: Port>(
-        &mut self,
-        rt: &R,
-        port: &mut P,
-        hold: P::Hold,
-        site: &mut HartSite<'a, 'p, S>,
-        child: u16,
-    ) -> Option<Task<Job<'p>>> {
-        let scheduler_ref = site.scheduler_ref(&self.hart_local);
-        let told = self.hart_local.enter(rt, scheduler_ref, port, hold, child)?;
-        Some(task_of(told))
-    }
-
-    fn give_back<P: Port>(
-        &mut self,
-        rt: &R,
-        port: &mut P,
-        hold: P::Hold,
-        around: &mut HartSite<'a, 'p, S>,
-    ) {
-        let scheduler_ref = around.scheduler_ref(&self.hart_local);
-        self.hart_local.give_back(rt, scheduler_ref, port, hold);
-    }
-
-    /// Blocks if there is nothing to do and the hart stays.
-    fn next(&mut self, rt: &R, site: &mut HartSite<'a, 'p, S>, is_home: bool) -> Task<Job<'p>> {
-        take_turn(rt, &mut site.turns);
-        let scheduler_ref = ref_in(&site.placement, site.level, &self.hart_local);
-        let batch = &mut site.batch;
-        task_of(self.hart_local.next(rt, scheduler_ref, batch, is_home))
     }
 
     fn deposit(&mut self, rt: &R, alloc: Global, site: &mut HartSite<'a, 'p, S>, piece: Piece<'p>) {

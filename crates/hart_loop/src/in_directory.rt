@@ -6,7 +6,7 @@ use shared_sites::SharedSite;
 
 /// A type that holds a `SharedSite`, as the directory's cells do.
 ///
-/// Why a trait, although `SharedSite` is the only such type: the prover compares the types of all calls of `Schedulers` part by
+/// Why a trait, although `SharedSite` is the only such type: the prover compares the types of all calls of `Sites` part by
 /// part where they are served, and a pool and a team have many parts.
 pub trait InDirectory<'p>: Drop {
     /// The site's scheduler.

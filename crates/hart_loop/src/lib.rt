@@ -1,7 +1,7 @@
 //! Runs of accepted programs.
 //!
 //! `run_alone` runs a program on one hart, and `run_harts` on the harts of its plan, each on a thread. `run_piped` does the
-//! same with members that overtake. `HartSchedulers` is the access of one of several harts to the schedulers, which are
+//! same with members that overtake. `HartSites` is the access of one of several harts to the schedulers, which are
 //! lock-protected and in a directory. `work` is the part of one hart from start to end, and `run_ports` runs a crew of harts,
 //! for any port that can wait.
 //!
@@ -22,7 +22,7 @@ mod turns;
 
 pub use hart::{Hart, work};
 pub use hart_site::HartSite;
-pub use harts::HartSchedulers;
+pub use harts::HartSites;
 pub use in_directory::InDirectory;
 pub use lone_hart::{Journal, Outcome, run_alone};
 pub use members::TeamMode;

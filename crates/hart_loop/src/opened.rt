@@ -8,7 +8,7 @@ ghost use Rattle.step_eval.specs.declared.shape.Kind.TheVariants as kind;
 ghost use Rattle.step_eval.specs.Shapes.{kind_of};
 ghost use Rattle.step_eval.specs.Nests.{nested_of, nested_writes};
 ghost use Rattle.pipe_sched.specs.Pipes.{IsUncrossed};
-ghost use Rattle.shared_sites.specs.Hands.{IsCompleted};
+ghost use Rattle.shared_sites.specs.Completed.{IsCompleted};
 ghost use Rattle.hart_loop.specs.Openings.{IsMadeOf, IsSharedPoolOf, kept_in};
 
 use crate::hart_site::Placement;

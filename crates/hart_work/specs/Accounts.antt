@@ -1,6 +1,5 @@
 -- The accounts of sites of a hart that shares the table with no other. Its entries are the whole journal. An account is about
 -- the plan, the site that the hart is in, and entries.
--- the plan, the site that the hart is in, and entries.
 use Rattle.std.specs.Prelude.{◌≡◌, ℕ, ◌+◌, ◌-◌, ◌≤◌, true, List}
 use Rattle.transfer_table.specs.Plan.{Plan, IsSite, parent}
 use Rattle.transfer_table.specs.Entry.{unregisters, skips_over}
@@ -12,8 +11,6 @@ use Rattle.contexts.specs.declared.machine.Step.{Step}
 use Rattle.contexts.specs.declared.machine.Step.TheVariants.{More, Nest, Finished, NoMemory}
 use Rattle.hart_work.specs.declared.found.Found.{Found}
 use Rattle.hart_work.specs.declared.found.Found.TheVariants as found
-use Rattle.hart_work.specs.declared.schedulers.Task.{Task}
-use Rattle.hart_work.specs.declared.schedulers.Task.TheVariants.{Piece, Visit, Nothing}
 
 -- An account of a machine in a site, between the entries with which it began its job and the current ones.
 abbrev pub Account : Type 1
@@ -51,17 +48,6 @@ pub record IsFreshChild (p : Plan) (around : ℕ) (es : List Entry) (s : ℕ) : 
   pub site : IsSite p s
   pub parent : parent p s ≡ around
   pub fresh : IsFresh p es s
-
--- The site's account waits for a task that is a job. There is no task to visit a site: no other hart opens one.
-abbrev pub HasServing : {J : Type 0} → Type 0 → (J → Type 0) → Task J → Type 0
-HasServing serving lent (Piece job) = lent job
-HasServing serving lent (Visit child) = ⊥
-HasServing serving lent Nothing = serving
-
--- A site's account is unchanged, and so are the accounts that wait for a job.
-abbrev pub StaysServed : {J : Type 0} → Account → (J → Account) → Account → (J → Account) → Type 0
-StaysServed {J} serving lent serving' lent' =
-    Follows serving serving' × ((job : J) → Follows (lent job) (lent' job))
 
 -- Each site inside was unregistered, or it or a site around it was skipped.
 abbrev pub HaveEnded : Plan → ℕ → List Entry → Type 0

@@ -3,7 +3,7 @@ ghost use Rattle.std.specs.Prelude.{◌≡◌, ℕ, ℤ, List, IfOk, OnOk};
 ghost use Rattle.contexts.specs.declared.machine.Step.TheVariants.{Finished};
 ghost use Rattle.transfer_table.specs.Plan.{Plan};
 ghost use Rattle.transfer_table.specs.declared.entry.Entry.{Entry};
-ghost use Rattle.hart_work.specs.Tasks.{Goes};
+ghost use Rattle.hart_work.specs.Steps.{Goes};
 ghost use Rattle.hart_work.specs.Accounts.{Account, Accounts, IsFreshChild};
 
 use crate::found::Found;

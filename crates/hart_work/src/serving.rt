@@ -1,21 +1,28 @@
 //! The procedure of a hart at a site.
-ghost use Rattle.std.specs.Prelude.{◌≡◌, ◌≤◌, ◌<◌, ◌+◌, ◌-◌, ℕ, List, IfOk, OnOk, true, false};
-ghost use Rattle.transfer_table.specs.Plan.{Plan, IsSite};
+ghost use Rattle.std.specs.Prelude.{◌≡◌, ◌≤◌, ◌<◌, ◌+◌, ◌-◌, ℕ, List, IfOk, OnOk, IsSome, None, true, false};
+ghost use Rattle.std.specs.Option.{ForSome};
+ghost use Rattle.transfer_table.specs.Plan.{Plan, IsSite, parent as parent_of};
 ghost use Rattle.transfer_table.specs.Entry.{requested};
 ghost use Rattle.transfer_table.specs.declared.entry.Entry.{Entry};
+ghost use Rattle.hart_port.specs.Count.{Rose};
 ghost use Rattle.hart_port.specs.PortView.{IsPortView, is_in};
 ghost use Rattle.transfer_table.specs.Accounts.{AreFresh, IsSpan};
 ghost use Rattle.transfer_table.specs.AccountLaws.{IsSkippedSpan};
 ghost use Rattle.site_steps.specs.Back.{IsSettled, IsBack};
 ghost use Rattle.site_steps.specs.Skips.{HasSkipped};
-ghost use Rattle.hart_work.specs.Tasks.{StaysSettled, HasAccount};
-ghost use Rattle.hart_work.specs.Accounts.{WhereAlone, StaysServed};
+ghost use Rattle.hart_work.specs.Accounts.{WhereAlone};
+ghost use Rattle.hart_work.specs.Sites.{Stays, HasAccount, HasEntered};
 
+use crate::at::At;
 use crate::found::Found;
 use crate::machines::Machines;
-use crate::schedulers::{Schedulers, Task};
+use crate::sites::Sites;
 use contexts::{Running, Step, ctx_fini, ctx_pause, ctx_resume};
 use hart_port::Port;
+use sched_api::{
+    Lent, Next, sched_enter, sched_reenter, sched_register, sched_request, sched_unregister,
+    sched_yield,
+};
 use site_steps::{PatientPort, SiteTree, finish_site, skip_sites, sweep_if};
 use std::alloc::{AllocError, Global};
 
@@ -29,14 +36,14 @@ use std::alloc::{AllocError, Global};
 ///
 /// It allocates the machine and its overlay.
 #[cycle(serve)]
-pub fn run_piece<P: PatientPort, R, M: Machines, H: Schedulers<R, M>, F: Fn(u8, &M::Job)>(
+pub fn run_piece<P: PatientPort, R, M: Machines, H: Sites<R, M>, F: Fn(u8, &M::Job)>(
     rt: &R,
     alloc: Global,
     tree: &SiteTree,
     pass: &F,
     port: &mut P,
     hold: P::Hold,
-    schedulers: &mut H,
+    sites: &mut H,
     around: &mut H::Site,
     job: M::Job,
 ) -> Result<M::Piece, AllocError>
@@ -48,13 +55,8 @@ pub fn run_piece<P: PatientPort, R, M: Machines, H: Schedulers<R, M>, F: Fn(u8, 
     ensures piece { IfOk result (λ piece. M.job_in piece ≡ job) }
     ensures ran { WhereAlone (P.seen port.old)
         (λ p around es. OnOk result (M.ran_job p es (P.seen port.new).mine job)) }
-    ensures stays { StaysSettled (H.settled around.old) (H.owed around.old) (H.settled around.new)
-        (H.owed around.new) }
-    ensures served { StaysServed (H.serving around.old) (H.lent around.old) (H.serving around.new)
-        (H.lent around.new) }
-    ensures construct { H.construct around.new ≡ H.construct around.old }
-    ensures left { H.left around.new ≤ H.left around.old }
-    ensures hart_local { H.hart_local schedulers.new ≡ H.hart_local schedulers.old }
+    ensures stays { Stays H.facts around.old around.new }
+    ensures hart_local { H.hart_local sites.new ≡ H.hart_local sites.old }
 {
     let mut running = M::start(alloc, job)?;
     'steps: loop {
@@ -63,7 +65,7 @@ pub fn run_piece<P: PatientPort, R, M: Machines, H: Schedulers<R, M>, F: Fn(u8, 
             Step::Nest(Found::Nest(nested)) => {
                 let paused = ctx_pause(running);
                 let written = run_construct(
-                    rt, alloc, tree, pass, port, hold, schedulers, around, nested,
+                    rt, alloc, tree, pass, port, hold, sites, around, nested,
                 );
                 running = ctx_resume(paused);
                 if supply::<M>(&mut running, written).is_err() {
@@ -94,14 +96,14 @@ pub fn run_piece<P: PatientPort, R, M: Machines, H: Schedulers<R, M>, F: Fn(u8, 
 ///
 /// It allocates the scheduler of the site, and what its pieces allocate.
 #[cycle(serve)]
-pub fn run_construct<P: PatientPort, R, M: Machines, H: Schedulers<R, M>, F: Fn(u8, &M::Job)>(
+pub fn run_construct<P: PatientPort, R, M: Machines, H: Sites<R, M>, F: Fn(u8, &M::Job)>(
     rt: &R,
     alloc: Global,
     tree: &SiteTree,
     pass: &F,
     port: &mut P,
     hold: P::Hold,
-    schedulers: &mut H,
+    sites: &mut H,
     around: &mut H::Site,
     nested: M::Nested,
 ) -> Result<M::Written, AllocError>
@@ -113,39 +115,33 @@ pub fn run_construct<P: PatientPort, R, M: Machines, H: Schedulers<R, M>, F: Fn(
     ensures written { IfOk result (λ written. M.written_in written ≡ M.writes_of nested) }
     ensures ran { WhereAlone (P.seen port.old)
         (λ p around es. OnOk result (M.ran p es (P.seen port.new).mine nested)) }
-    ensures stays { StaysSettled (H.settled around.old) (H.owed around.old) (H.settled around.new)
-        (H.owed around.new) }
-    ensures served { StaysServed (H.serving around.old) (H.lent around.old) (H.serving around.new)
-        (H.lent around.new) }
-    ensures construct { H.construct around.new ≡ H.construct around.old }
-    ensures left { H.left around.new ≤ H.left around.old }
-    ensures hart_local { H.hart_local schedulers.new ≡ H.hart_local schedulers.old }
+    ensures stays { Stays H.facts around.old around.new }
+    ensures hart_local { H.hart_local sites.new ≡ H.hart_local sites.old }
 {
     let number = M::number(&nested);
     if !tree.is_child(port.owner(), number) {
         return M::compute(alloc, nested);
     }
-    let mut site = schedulers.open(alloc, &nested)?;
-    match schedulers.register(rt, port, hold, around, number) {
-        Ok(()) => {
-            schedulers.offer(rt, &site);
+    let mut site = sites.open(alloc, &nested)?;
+    let claim = sched_register(port, hold, &mut At::new(rt, sites, around), (), number);
+    match claim {
+        Ok(_) => {
+            sites.offer(rt, &site);
             ask(
                 rt,
                 tree,
                 port,
                 hold,
-                schedulers,
+                sites,
                 around,
                 number,
-                schedulers.wishes(&site),
+                sites.wishes(&site),
             );
-            serve(
-                rt, alloc, tree, pass, port, hold, schedulers, &mut site, true,
-            );
-            sweep_if(tree, port, hold, schedulers.has_failed(rt, &site));
+            serve(rt, alloc, tree, pass, port, hold, sites, &mut site);
+            sweep_if(tree, port, hold, sites.has_failed(rt, &site));
             finish_site(tree, port, hold);
-            schedulers.unregister(rt, port, hold, around);
-            schedulers.take(rt, alloc, site)
+            sched_unregister(port, hold, &mut At::new(rt, sites, around), ());
+            sites.take(rt, alloc, site)
         }
         Err(_) => {
             port.until_gone(hold, number);
@@ -161,87 +157,87 @@ pub fn run_construct<P: PatientPort, R, M: Machines, H: Schedulers<R, M>, F: Fn(
 /// It allocates what `run_piece` allocates for each job, and what the site's scheduler allocates when it gets a piece. If an
 /// allocation for a job fails, the job's piece is reported as failed, and the call goes on.
 #[cycle(serve)]
-pub fn serve<P: PatientPort, R, M: Machines, H: Schedulers<R, M>, F: Fn(u8, &M::Job)>(
+pub fn serve<P: PatientPort, R, M: Machines, H: Sites<R, M>, F: Fn(u8, &M::Job)>(
     rt: &R,
     alloc: Global,
     tree: &SiteTree,
     pass: &F,
     port: &mut P,
     hold: P::Hold,
-    schedulers: &mut H,
+    sites: &mut H,
     site: &mut H::Site,
-    is_home: bool,
 )
     requires plan { (P.seen port.old).plan ≡ tree.now }
     requires callable { F.IsAlwaysCallable pass.now }
     requires inner { IsSettled (P.seen port.old) }
-    requires settled { H.settled site.old }
+    requires settled { H.facts.settled site.old }
     requires serving { WhereAlone (P.seen port.old)
-        (λ p around es. H.keeps × (start : List Entry) × H.serving site.old p around start es) }
+        (λ p around es. H.keeps × (start : List Entry) × H.facts.serving site.old p around start es) }
     ensures back { IsBack (P.seen port.old) (P.seen port.new) }
-    ensures settled { H.settled site.new }
-    ensures over { is_home ≡ true → H.over site.new }
+    ensures settled { H.facts.settled site.new }
+    ensures over { IsSome (H.facts.construct site.new) → H.facts.over site.new }
     ensures served { WhereAlone (P.seen port.old) (λ p around es. (start : List Entry)
-        → H.serving site.old p around start es
-        → H.serving site.new p around start (P.seen port.new).mine) }
-    ensures construct { H.construct site.new ≡ H.construct site.old }
-    ensures left { H.left site.new ≤ H.left site.old }
-    ensures hart_local { H.hart_local schedulers.new ≡ H.hart_local schedulers.old }
+        → H.facts.serving site.old p around start es
+        → H.facts.serving site.new p around start (P.seen port.new).mine) }
+    ensures construct { H.facts.construct site.new ≡ H.facts.construct site.old }
+    ensures left { H.facts.left site.new ≤ H.facts.left site.old }
+    ensures hart_local { H.hart_local sites.new ≡ H.hart_local sites.old }
 {
     'tasks: loop {
-        match schedulers.next(rt, site, is_home) {
-            Task::Piece(job) => run_job(rt, alloc, tree, pass, port, hold, schedulers, site, job),
-            Task::Visit(child) => visit(rt, alloc, tree, pass, port, hold, schedulers, site, child),
-            Task::Nothing => return,
+        let next = sched_reenter(&mut At::new(rt, sites, site), ());
+        match next {
+            Next::Run(job) => run_job(rt, alloc, tree, pass, port, hold, sites, site, job),
+            Next::Lend(child) => visit(rt, alloc, tree, pass, port, hold, sites, site, child),
+            Next::Nothing => return,
         }
     }
 }
 
 // Runs a job, and puts its piece into the site's book.
 #[cycle(serve)]
-fn run_job<P: PatientPort, R, M: Machines, H: Schedulers<R, M>, F: Fn(u8, &M::Job)>(
+fn run_job<P: PatientPort, R, M: Machines, H: Sites<R, M>, F: Fn(u8, &M::Job)>(
     rt: &R,
     alloc: Global,
     tree: &SiteTree,
     pass: &F,
     port: &mut P,
     hold: P::Hold,
-    schedulers: &mut H,
+    sites: &mut H,
     site: &mut H::Site,
     job: M::Job,
 )
     requires plan { (P.seen port.old).plan ≡ tree.now }
     requires callable { F.IsAlwaysCallable pass.now }
     requires inner { IsSettled (P.seen port.old) }
-    requires owed { H.owed site.old job }
+    requires owed { H.facts.owed site.old job }
     requires fresh { WhereAlone (P.seen port.old) (λ p around es. H.keeps × M.fresh_job p around es job) }
     ensures back { IsBack (P.seen port.old) (P.seen port.new) }
-    ensures settled { H.settled site.new }
+    ensures settled { H.facts.settled site.new }
     ensures served { WhereAlone (P.seen port.old) (λ p around es. (start : List Entry)
-        → H.lent site.old job p around start es
-        → H.serving site.new p around start (P.seen port.new).mine) }
-    ensures construct { H.construct site.new ≡ H.construct site.old }
-    ensures left { H.left site.new ≤ H.left site.old }
-    ensures hart_local { H.hart_local schedulers.new ≡ H.hart_local schedulers.old }
+        → H.facts.lent site.old job p around start es
+        → H.facts.serving site.new p around start (P.seen port.new).mine) }
+    ensures construct { H.facts.construct site.new ≡ H.facts.construct site.old }
+    ensures left { H.facts.left site.new ≤ H.facts.left site.old }
+    ensures hart_local { H.hart_local sites.new ≡ H.hart_local sites.old }
 {
     let (phase, place) = (M::phase(&job), M::place(&job));
     pass(port.hart(), &job);
-    match run_piece(rt, alloc, tree, pass, port, hold, schedulers, site, job) {
-        Ok(piece) => schedulers.deposit(rt, alloc, site, piece),
-        Err(AllocError) => schedulers.fail(rt, site, phase, place),
+    match run_piece(rt, alloc, tree, pass, port, hold, sites, site, job) {
+        Ok(piece) => sites.deposit(rt, alloc, site, piece),
+        Err(AllocError) => sites.fail(rt, site, phase, place),
     }
 }
 
 // Enters a child that wants a hart and that another hart opened, runs its tasks, and returns.
 #[cycle(serve)]
-fn visit<P: PatientPort, R, M: Machines, H: Schedulers<R, M>, F: Fn(u8, &M::Job)>(
+fn visit<P: PatientPort, R, M: Machines, H: Sites<R, M>, F: Fn(u8, &M::Job)>(
     rt: &R,
     alloc: Global,
     tree: &SiteTree,
     pass: &F,
     port: &mut P,
     hold: P::Hold,
-    schedulers: &mut H,
+    sites: &mut H,
     around: &mut H::Site,
     child: u16,
 )
@@ -250,58 +246,81 @@ fn visit<P: PatientPort, R, M: Machines, H: Schedulers<R, M>, F: Fn(u8, &M::Job)
     requires inner { IsSettled (P.seen port.old) }
     requires shared { (P.seen port.old).alone ≡ false }
     ensures back { IsBack (P.seen port.old) (P.seen port.new) }
-    ensures stays { StaysSettled (H.settled around.old) (H.owed around.old) (H.settled around.new)
-        (H.owed around.new) }
-    ensures served { StaysServed (H.serving around.old) (H.lent around.old) (H.serving around.new)
-        (H.lent around.new) }
-    ensures construct { H.construct around.new ≡ H.construct around.old }
-    ensures left { H.left around.new ≤ H.left around.old }
-    ensures hart_local { H.hart_local schedulers.new ≡ H.hart_local schedulers.old }
+    ensures stays { Stays H.facts around.old around.new }
+    ensures hart_local { H.hart_local sites.new ≡ H.hart_local sites.old }
 {
     if !tree.is_child(port.owner(), child) {
         return;
     }
-    let Some(mut site) = schedulers.find(rt, child) else {
+    let Some(mut site) = sites.find(rt, child) else {
         return;
     };
-    match schedulers.enter(rt, port, hold, &mut site, child) {
-        Some(task) => {
-            be_guest(
-                rt, alloc, tree, pass, port, hold, schedulers, &mut site, task,
-            );
-            schedulers.give_back(rt, port, hold, around);
-        }
-        None => {}
+    if let Some(next) = enter(rt, port, hold, sites, &mut site) {
+        be_guest(rt, alloc, tree, pass, port, hold, sites, &mut site, next);
+        sched_yield(port, hold, &mut At::new(rt, sites, around), ());
     }
 }
 
-// Runs the task that the site gave to the hart as it entered, and then the other tasks of the site.
+// Tries to enter the site until the hart is inside, and returns the site's next action for it. If the site wants no hart, the
+// hart isn't inside.
+fn enter<P: PatientPort, R, M: Machines, H: Sites<R, M>>(
+    rt: &R,
+    port: &mut P,
+    hold: P::Hold,
+    sites: &mut H,
+    site: &mut H::Site,
+) -> Option<Next<M::Job>>
+    requires known { IsSite (P.seen port.old).plan (H.facts.number site.old) }
+    requires child { (P.seen port.old).owner ≡ parent_of (P.seen port.old).plan (H.facts.number site.old) }
+    requires settled { H.facts.settled site.old }
+    requires kept { IsPortView (P.seen port.old) }
+    ensures does { HasEntered (P.seen port.old) (H.facts.number site.old) result (P.seen port.new) }
+    ensures kept { IsPortView (P.seen port.new) }
+    ensures refused { result ≡ None → Rose (P.refused port.old) (P.refused port.new) }
+    ensures account { ForSome result (HasAccount (H.facts.settled site.new) (H.facts.owed site.new)) }
+    ensures hart_local { H.hart_local sites.new ≡ H.hart_local sites.old }
+{
+    'tries: loop {
+        let lent = sched_enter(port, hold, &mut At::new(rt, sites, site), ());
+        match lent {
+            Lent::Inside(next) => return Some(next),
+            Lent::NotWanted { shown: _ } => return None,
+            Lent::Moved { read: _, found: _ } => {
+                if !sites.tries_again(rt, site) {
+                    return None;
+                }
+            }
+        }
+    }
+}
+
+// Does what the site gave the hart to do as it entered, and then the rest.
 #[cycle(serve)]
-fn be_guest<P: PatientPort, R, M: Machines, H: Schedulers<R, M>, F: Fn(u8, &M::Job)>(
+fn be_guest<P: PatientPort, R, M: Machines, H: Sites<R, M>, F: Fn(u8, &M::Job)>(
     rt: &R,
     alloc: Global,
     tree: &SiteTree,
     pass: &F,
     port: &mut P,
     hold: P::Hold,
-    schedulers: &mut H,
+    sites: &mut H,
     site: &mut H::Site,
-    task: Task<M::Job>,
+    next: Next<M::Job>,
 )
     requires plan { (P.seen port.old).plan ≡ tree.now }
     requires callable { F.IsAlwaysCallable pass.now }
     requires inner { IsSettled (P.seen port.old) }
     requires shared { (P.seen port.old).alone ≡ false }
-    requires account { HasAccount (H.settled site.old) (H.owed site.old) task }
+    requires account { HasAccount (H.facts.settled site.old) (H.facts.owed site.old) next }
     ensures back { IsBack (P.seen port.old) (P.seen port.new) }
-    ensures hart_local { H.hart_local schedulers.new ≡ H.hart_local schedulers.old }
+    ensures hart_local { H.hart_local sites.new ≡ H.hart_local sites.old }
 {
-    match task {
-        Task::Piece(job) => run_job(rt, alloc, tree, pass, port, hold, schedulers, site, job),
-        Task::Visit(child) => visit(rt, alloc, tree, pass, port, hold, schedulers, site, child),
-        Task::Nothing => {}
+    match next {
+        Next::Run(job) => run_job(rt, alloc, tree, pass, port, hold, sites, site, job),
+        Next::Lend(child) => visit(rt, alloc, tree, pass, port, hold, sites, site, child),
+        Next::Nothing => {}
     }
-    serve(rt, alloc, tree, pass, port, hold, schedulers, site, false);
+    serve(rt, alloc, tree, pass, port, hold, sites, site);
 }
 
 // Skips the sites that a step passes: each child of the owner among them, unless the port refuses its skip. If the hart is
@@ -322,12 +341,12 @@ fn skip_span<P: PatientPort>(tree: &SiteTree, port: &mut P, hold: P::Hold, first
 }
 
 // Requests as many harts as the site has work for and the plan has besides this one.
-fn ask<P: PatientPort, R, M: Machines, H: Schedulers<R, M>>(
+fn ask<P: PatientPort, R, M: Machines, H: Sites<R, M>>(
     rt: &R,
     tree: &SiteTree,
     port: &mut P,
     hold: P::Hold,
-    schedulers: &mut H,
+    sites: &mut H,
     around: &mut H::Site,
     site: u16,
     most: u8,
@@ -342,17 +361,12 @@ fn ask<P: PatientPort, R, M: Machines, H: Schedulers<R, M>>(
     requires kept { IsPortView (P.seen port.old) }
     ensures back { IsBack (P.seen port.old) (P.seen port.new) }
     ensures quiet { (P.seen port.old).alone ≡ true → P.seen port.new ≡ P.seen port.old }
-    ensures stays { StaysSettled (H.settled around.old) (H.owed around.old) (H.settled around.new)
-        (H.owed around.new) }
-    ensures served { StaysServed (H.serving around.old) (H.lent around.old) (H.serving around.new)
-        (H.lent around.new) }
-    ensures construct { H.construct around.new ≡ H.construct around.old }
-    ensures left { H.left around.new ≤ H.left around.old }
-    ensures hart_local { H.hart_local schedulers.new ≡ H.hart_local schedulers.old }
+    ensures stays { Stays H.facts around.old around.new }
+    ensures hart_local { H.hart_local sites.new ≡ H.hart_local sites.old }
 {
     let count = most.min(tree.plan().harts() - 1);
     if count >= 1 {
-        schedulers.request(rt, port, hold, around, site, count);
+        sched_request(port, hold, &mut At::new(rt, sites, around), (), site, count);
     }
 }
 

@@ -8,14 +8,15 @@ use array_jobs::{Piece, piece_of};
 use array_tree::Program;
 use deque_rows::rows;
 use disjoint_check::check;
-use hart_loop::{HartSchedulers, HartSite, InDirectory, TeamMode};
-use hart_work::{Schedulers, Task};
+use hart_loop::{HartSite, HartSites, InDirectory, TeamMode};
+use hart_work::Sites;
 use job_machines::JobMachines;
 use loop_team::ClaimSeat;
 use once_cell::race::OnceBox;
 use sample_programs::{
     BOTH_BRANCHES, BOTH_PHASES, TWO_BRANCHES, TWO_PHASES, first_construct, parsed,
 };
+use sched_api::Next;
 use shared_sites::{Claims, HartLocal, SharedSite, cells, hart_locals_of, lines};
 use std::alloc::Global;
 use std::sync::Wait;
@@ -42,16 +43,15 @@ fn two_hart_locals<'x>(
 fn next_piece<'a, 'p, R: Wait, S: InDirectory<'p>>(
     rt: &'a R,
     alloc: Global,
-    hart: &mut HartSchedulers<'a, 'p, S>,
+    hart: &mut HartSites<'a, 'p, S>,
     site: &mut HartSite<'a, 'p, S>,
-    is_home: bool,
 ) -> Option<Piece<'p>>
     requires opened { IsOpened S.held site.old }
     ensures opened { IsOpened S.held site.new }
     ensures construct { site.new.opened ≡ site.old.opened }
 {
-    match hart.next(rt, site, is_home) {
-        Task::Piece(job) => piece_of(alloc, job).ok(),
+    match hart.next(rt, site) {
+        Next::Run(job) => piece_of(alloc, job).ok(),
         _ => None,
     }
 }
@@ -60,14 +60,14 @@ fn next_piece<'a, 'p, R: Wait, S: InDirectory<'p>>(
 fn does_a_piece<'a, 'p, R: Wait, S: InDirectory<'p>>(
     rt: &'a R,
     alloc: Global,
-    home: &mut HartSchedulers<'a, 'p, S>,
+    home: &mut HartSites<'a, 'p, S>,
     site: &mut HartSite<'a, 'p, S>,
 ) -> bool
     requires opened { IsOpened S.held site.old }
     ensures opened { IsOpened S.held site.new }
     ensures construct { site.new.opened ≡ site.old.opened }
 {
-    match next_piece(rt, alloc, home, site, true) {
+    match next_piece(rt, alloc, home, site) {
         Some(piece) => {
             home.deposit(rt, alloc, site, piece);
             true
@@ -85,8 +85,8 @@ fn by_the_home<'a, 'p, R: Wait, S: InDirectory<'p>>(
     hart_local: HartLocal<'a>,
 ) -> Result<Overlay, Fail> {
     let nested = first_construct(alloc, program)?;
-    let mut home = HartSchedulers::new(lines(alloc, cells)?, hart_local, TeamMode::Wait);
-    let mut site = Schedulers::<R, JobMachines<'p>>::open(&mut home, alloc, &nested)?;
+    let mut home = HartSites::new(lines(alloc, cells)?, hart_local, TeamMode::Wait);
+    let mut site = Sites::<R, JobMachines<'p>>::open(&mut home, alloc, &nested)?;
     home.offer(rt, &site);
     let first = does_a_piece(rt, alloc, &mut home, &mut site);
     let second = does_a_piece(rt, alloc, &mut home, &mut site);
@@ -124,23 +124,23 @@ fn a_home_does_all_pieces(rt: HostRuntime) -> Result<(), Fail> {
 fn does_one<'a, 'p, R: Wait, S: InDirectory<'p>>(
     rt: &'a R,
     alloc: Global,
-    guest: &mut HartSchedulers<'a, 'p, S>,
+    guest: &mut HartSites<'a, 'p, S>,
     found: &mut HartSite<'a, 'p, S>,
 ) -> bool
     requires opened { IsOpened S.held found.old }
 {
-    let Some(piece) = next_piece(rt, alloc, guest, found, false) else {
+    let Some(piece) = next_piece(rt, alloc, guest, found) else {
         return false;
     };
     guest.deposit(rt, alloc, found, piece);
-    matches!(guest.next(rt, found, false), Task::Nothing)
+    matches!(guest.next(rt, found), Next::Nothing)
 }
 
 // The same for a guest that finds the site by its lines.
 fn helps<'a, 'p, R: Wait, S: InDirectory<'p>>(
     rt: &'a R,
     alloc: Global,
-    guest: &mut HartSchedulers<'a, 'p, S>,
+    guest: &mut HartSites<'a, 'p, S>,
 ) -> bool {
     match guest.find(rt, 1) {
         Some(mut found) => does_one(rt, alloc, guest, &mut found),
@@ -152,20 +152,20 @@ fn helps<'a, 'p, R: Wait, S: InDirectory<'p>>(
 fn is_helped<'a, 'p, R: Wait, S: InDirectory<'p>>(
     rt: &'a R,
     alloc: Global,
-    home: &mut HartSchedulers<'a, 'p, S>,
+    home: &mut HartSites<'a, 'p, S>,
     site: &mut HartSite<'a, 'p, S>,
-    guest: &mut HartSchedulers<'a, 'p, S>,
+    guest: &mut HartSites<'a, 'p, S>,
 ) -> bool
     requires opened { IsOpened S.held site.old }
     ensures opened { IsOpened S.held site.new }
     ensures construct { site.new.opened ≡ site.old.opened }
 {
-    let Some(piece) = next_piece(rt, alloc, home, site, true) else {
+    let Some(piece) = next_piece(rt, alloc, home, site) else {
         return false;
     };
     let helped = helps(rt, alloc, guest);
     home.deposit(rt, alloc, site, piece);
-    let is_done = matches!(home.next(rt, site, true), Task::Nothing);
+    let is_done = matches!(home.next(rt, site), Next::Nothing);
     helped && is_done
 }
 
@@ -174,10 +174,10 @@ fn with_a_guest<'a, 'p, R: Wait, S: InDirectory<'p>>(
     rt: &'a R,
     alloc: Global,
     nested: &Nested<'p>,
-    home: &mut HartSchedulers<'a, 'p, S>,
-    guest: &mut HartSchedulers<'a, 'p, S>,
+    home: &mut HartSites<'a, 'p, S>,
+    guest: &mut HartSites<'a, 'p, S>,
 ) -> Result<Overlay, Fail> {
-    let mut site = Schedulers::<R, JobMachines<'p>>::open(home, alloc, nested)?;
+    let mut site = Sites::<R, JobMachines<'p>>::open(home, alloc, nested)?;
     home.offer(rt, &site);
     let helped = is_helped(rt, alloc, home, &mut site, guest);
     let written = home.take(rt, alloc, site)?;
@@ -196,8 +196,8 @@ fn by_two<'a, 'p, R: Wait, S: InDirectory<'p>>(
     hart_local: (HartLocal<'a>, HartLocal<'a>),
 ) -> Result<Overlay, Fail> {
     let (first, second) = hart_local;
-    let mut home = HartSchedulers::new(lines(alloc, cells)?, first, TeamMode::Wait);
-    let mut guest = HartSchedulers::new(lines(alloc, cells)?, second, TeamMode::Wait);
+    let mut home = HartSites::new(lines(alloc, cells)?, first, TeamMode::Wait);
+    let mut guest = HartSites::new(lines(alloc, cells)?, second, TeamMode::Wait);
     with_a_guest(rt, alloc, nested, &mut home, &mut guest)
 }
 
@@ -229,9 +229,9 @@ fn untouched<'a, 'p, R: Wait, S: InDirectory<'p>>(
     members: TeamMode,
 ) -> Result<(Overlay, u8), Fail> {
     let nested = first_construct(alloc, program)?;
-    let mut home = HartSchedulers::new(lines(alloc, cells)?, hart_local, members);
-    let site = Schedulers::<R, JobMachines<'p>>::open(&mut home, alloc, &nested)?;
-    let wishes = Schedulers::<R, JobMachines<'p>>::wishes(&home, &site);
+    let mut home = HartSites::new(lines(alloc, cells)?, hart_local, members);
+    let site = Sites::<R, JobMachines<'p>>::open(&mut home, alloc, &nested)?;
+    let wishes = Sites::<R, JobMachines<'p>>::wishes(&home, &site);
     Ok((home.take(rt, alloc, site)?, wishes))
 }
 

@@ -12,7 +12,7 @@ use Rattle.job_machines.specs.Machines.{IsRunJob}
 use Rattle.job_machines.proofs.Going.{machines_run_on, machines_wait, machines_pass, machines_finish}
 use Rattle.job_machines.specs.Accounts.{IsAwaitingWrites, is_fresh, is_run_job, is_going, is_waiting}
 use Rattle.job_machines.specs.Met.{as_seen}
-use Rattle.hart_work.specs.Tasks.{Goes}
+use Rattle.hart_work.specs.Steps.{Goes}
 use Rattle.hart_work.specs.Accounts.{Accounts}
 
 pub goes_of : (before after : Progress) (s : Step Found) → HasGone before s after →

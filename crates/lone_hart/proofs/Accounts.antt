@@ -96,13 +96,13 @@ begun_else begin c other (suc k) [] rest e = cc
 begun_else begin c other (suc k) (j ∷ js) rest e = begun_else begin c other k js rest e
 
 -- A ready context is never handed out.
-pub none_to_go_on : {C : Type 0} (begin : JobParts → C) (book : BookParts) (before after : AgendaParts C) (c : C) → ((job : JobParts) → begin job ≢ c) → AllCameBack begin book before →
+none_to_go_on : {C : Type 0} (begin : JobParts → C) (book : BookParts) (before after : AgendaParts C) (c : C) → ((job : JobParts) → begin job ≢ c) → AllCameBack begin book before →
     TakesNext before (Run c) after → ⊥
 none_to_go_on begin book before after c other (k, stands) (inl taken) = no_first before.ready after.ready c stands.none_ready taken.first
 none_to_go_on begin book before after c other (k, stands) (inr taken) = begun_else begin c other k book.jobs after.unbegun (sym stands.unbegun ∙ taken.first)
 
 -- If no job is left to begin, the book is full.
-pub full : {C : Type 0} (begin : JobParts → C) (book : BookParts) (agenda : AgendaParts C) → AllCameBack begin book agenda → agenda.unbegun ≡ [] → IsFull book
+full : {C : Type 0} (begin : JobParts → C) (book : BookParts) (agenda : AgendaParts C) → AllCameBack begin book agenda → agenda.unbegun ≡ [] → IsFull book
 full begin book agenda (k, stands) none i is = elim (cases_lt i k) [
   | inl less ↦ stands.back i less is
   | inr up ↦
@@ -111,6 +111,13 @@ full begin book agenda (k, stands) none i is = elim (cases_lt i k) [
       let each = stands.each in
       omega arith
 ]
+
+-- If every job came back and the book isn't full, a job is handed out.
+pub always_begins : {C : Type 0} (begin : JobParts → C) (book : BookParts) (before after : AgendaParts C) (next : Next C) → AllCameBack begin book before → ¬ IsFull book → TakesNext before next after →
+    ((job : JobParts) → next ≢ Run (begin job)) → ⊥
+always_begins begin book before after (Run c) all more taken other = none_to_go_on begin book before after c (λ job e. other job (ap Run (sym e))) all taken
+always_begins begin book before after (Lend child) all more taken other = more (full begin book before all taken.all_begun)
+always_begins begin book before after Nothing all more taken other = more (full begin book before all taken.0.all_begun)
 
 -- If a scheduler has nothing to run, no job is left to begin.
 pub none_left : {C : Type 0} (before after : AgendaParts C) (next : Next C) → ((c : C) → next ≡ Run c → ⊥) → TakesNext before next after → before.unbegun ≡ []

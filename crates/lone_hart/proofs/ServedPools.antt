@@ -1,30 +1,31 @@
 -- The account of a pool's sites, as the only hart serves the pool.
-use Rattle.std.proofs.Common.{◌≡◌, ℕ, suc, ◌<◌, ◌≤◌, List, length, map, slice_get, Some, refl, sym, ap, ◌∙◌, subst, arith}
+use Rattle.std.proofs.Common.{◌≡◌, ℕ, suc, ◌<◌, ◌≤◌, List, length, map, slice_get, Some, refl, sym, ap, ◌∙◌, ◌⊎◌, subst, inl, inr, arith}
 use Rattle.std.proofs.lemmas.List.{length-map}
 use Rattle.transfer_table.specs.Plan.{Plan}
 use Rattle.transfer_table.specs.declared.entry.Entry.{Entry}
 use Rattle.array_tree.specs.Trees.{statement_of}
 use Rattle.array_jobs.specs.Jobs.{JobParts, job_of}
-use Rattle.join_book.specs.Books.{BookParts, Filled, Open, IsFull, marked_book}
-use Rattle.sched_api.specs.declared.scheduler.Next.TheVariants.{Run}
+use Rattle.join_book.specs.Books.{BookParts, Filled, Open, IsFull, HasFailed, marked_book}
+use Rattle.sched_api.specs.declared.scheduler.Next.TheVariants.{Run, Nothing}
 use Rattle.sched_api.specs.Wishes.{WishList}
 use Rattle.sched_api.specs.Agenda.{AgendaParts, TakesNext}
 use Rattle.step_eval.specs.Nests.{NestedParts, nested_of, phases_of}
 use Rattle.forkjoin_sched.specs.Pools.{PoolParts}
-use Rattle.forkjoin_sched.specs.declared.work.PoolWork.{PoolWork}
-use Rattle.forkjoin_sched.specs.declared.work.PoolWork.TheVariants.{Begin, Ready}
+use Rattle.step_eval.specs.declared.work.Work.{Work}
+use Rattle.step_eval.specs.declared.work.Work.TheVariants.{Begin, Ready}
 use Rattle.job_machines.specs.Machines.{IsFreshJob, IsRunJob}
 use Rattle.job_machines.specs.Orders.{HasServed}
 use Rattle.job_machines.proofs.Orders.{next_jobs_are_fresh, next_jobs_are_done, phases_turn}
-use Rattle.lone_hart.specs.Accounts.{Stands}
+use Rattle.lone_hart.specs.Accounts.{Stands, AllButOneCameBack}
 use Rattle.lone_hart.specs.Sites.{IsPoolOf}
-use Rattle.lone_hart.specs.Served.{ServesPool, LendsJob}
-use Rattle.lone_hart.proofs.Accounts.{IsOneToOne, handed, came_back, all_back, seen_job, heard}
+use Rattle.lone_hart.specs.Served.{ServesPool, LendsJob, GivesLone}
+use Rattle.lone_hart.specs.declared.site.LoneSite.TheVariants.{Pool}
+use Rattle.lone_hart.proofs.Accounts.{IsOneToOne, handed, hand_out, hand_out_less, came_back, all_back, seen_job, heard}
 
 pub one_to_one : IsOneToOne Begin
-one_to_one a b e = ap (λ (w : PoolWork). job_or a w) e
+one_to_one a b e = ap (λ (w : Work). job_or a w) e
   where
-    job_or : JobParts → PoolWork → JobParts
+    job_or : JobParts → Work → JobParts
     job_or j (Begin job) = job
     job_or j (Ready c) = j
 
@@ -54,6 +55,30 @@ pool_lends p around start es nested before after job serves taken same =
       next_jobs_are_fresh p around start es (nested_of nested) 0 k (job_of job) (zero_phase nested before serves.of) (seen_job before.book.jobs _ k job serves.of.jobs next.0) serves.served,
     )
 
+-- A pool that is full or failed gives nothing. Otherwise it gives its next job.
+pub pool_rests : (nested : NestedParts) (pool : PoolParts) → IsFull pool.book ⊎ HasFailed pool.book → GivesLone (Pool nested pool) Nothing (Pool nested pool)
+pool_rests nested pool done settled =
+    record { construct = refl; left = omega arith; account = settled; over = λ is home. (settled.0, done); served = λ p around start es serving. serving }
+
+pub pool_gives : (nested : NestedParts) (before after : PoolParts) (job : JobParts) → ¬ HasFailed before.book → TakesNext before.agenda (Run (Begin job)) after.agenda → after.book ≡ before.book →
+    GivesLone (Pool nested before) (Run job) (Pool nested after)
+pool_gives nested before after job well taken same settled = record {
+  construct = refl;
+  left = hand_out_less (Begin job) before.agenda after.agenda settled.1.1.none_ready taken;
+  account = (
+    pool_of nested before after (ap (λ (b : BookParts). b.jobs) same) settled.0,
+    subst (λ (b : BookParts). AllButOneCameBack Begin b after.agenda job) (sym same) (hand_out Begin one_to_one before.book before.agenda after.agenda job settled.1 taken),
+  );
+  over = λ is. absurd (goes_on is);
+  served = λ p around start es serving. elim serving.1 [
+    | inl failed ↦ absurd (well failed)
+    | inr serves ↦ let lends = pool_lends p around start es nested before after job serves taken same in ((serving.0, lends.0), (serving.0, lends.1))
+  ];
+}
+  where
+    goes_on : Run job ≡ Nothing → ⊥
+    goes_on e = cc
+
 pub pool_keeps : (p : Plan) (around : ℕ) (start es es' : List Entry) (nested : NestedParts) (before after : PoolParts) (job : JobParts) → LendsJob p around start es nested before job
     → IsRunJob p es es' (job_of job) → after.book ≡ marked_book before.book job.place Filled → after.agenda ≡ before.agenda → ServesPool p around start es' nested after
 pool_keeps p around start es es' nested before after job lends ran book agenda =
@@ -64,7 +89,7 @@ pool_keeps p around start es es' nested before after job lends ran book agenda =
       done = suc k;
       of = pool_of nested before after (ap (λ (b : BookParts). b.jobs) is) lends.of;
       stands = subst (λ (b : BookParts). Stands Begin b after.agenda (suc k) (suc k)) (sym is)
-          (subst (λ (a : AgendaParts PoolWork). Stands Begin (marked_book before.book k Filled) a (suc k) (suc k)) (sym agenda) (came_back Begin before.book before.agenda k Filled filled_open lends.stands));
+          (subst (λ (a : AgendaParts Work). Stands Begin (marked_book before.book k Filled) a (suc k) (suc k)) (sym agenda) (came_back Begin before.book before.agenda k Filled filled_open lends.stands));
       served = next_jobs_are_done p around start es es' (nested_of nested) 0 k (job_of job) (zero_phase nested before lends.of) (seen_job before.book.jobs _ k job lends.of.jobs lends.own) lends.served ran;
     }
 

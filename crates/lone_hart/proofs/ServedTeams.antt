@@ -9,25 +9,26 @@ use Rattle.array_jobs.specs.PieceParts.{PieceParts}
 use Rattle.join_book.specs.Books.{BookParts, Filled, Open, marked_book}
 use Rattle.lithe_barrier.specs.declared.state.Arrival.{Arrival}
 use Rattle.lithe_barrier.specs.declared.state.Arrival.TheVariants.{Kept, Opened, Stranger}
-use Rattle.sched_api.specs.declared.scheduler.Next.TheVariants.{Run}
+use Rattle.sched_api.specs.declared.scheduler.Next.TheVariants.{Run, Nothing}
 use Rattle.sched_api.specs.Wishes.{WishList}
-use Rattle.sched_api.specs.Agenda.{TakesNext}
+use Rattle.sched_api.specs.Agenda.{AgendaParts, TakesNext}
 use Rattle.step_eval.specs.Nests.{nested_of}
 use Rattle.loop_team.specs.Teams.{TeamParts, IsOver, AreJobsIn, GoesOn, MovesOn, opened_team, with_barrier, with_agenda, with_phase, phases_in}
-use Rattle.loop_team.specs.declared.work.TeamWork.{TeamWork}
-use Rattle.loop_team.specs.declared.work.TeamWork.TheVariants.{Begin, Ready}
+use Rattle.step_eval.specs.declared.work.Work.{Work}
+use Rattle.step_eval.specs.declared.work.Work.TheVariants.{Begin, Ready}
 use Rattle.job_machines.specs.Machines.{IsFreshJob, IsRunJob}
 use Rattle.job_machines.specs.Orders.{HasServed}
 use Rattle.job_machines.proofs.Orders.{next_jobs_are_fresh, next_jobs_are_done, phases_turn}
 use Rattle.lone_hart.specs.Accounts.{Stands}
-use Rattle.lone_hart.specs.Served.{ServesPhase, ServedPhases, LendsMember, serves_team}
-use Rattle.lone_hart.proofs.Accounts.{IsOneToOne, handed, none_out, came_back, all_back, out_place, seen_job, heard}
+use Rattle.lone_hart.specs.Served.{ServesPhase, ServedPhases, LendsMember, serves_team, GivesLone}
+use Rattle.lone_hart.specs.declared.site.LoneSite.TheVariants.{Team}
+use Rattle.lone_hart.proofs.Accounts.{IsOneToOne, handed, hand_out, hand_out_less, none_out, came_back, all_back, out_place, seen_job, heard}
 use Rattle.lone_hart.proofs.TeamAccounts.{are_group}
 
 pub one_to_one : IsOneToOne Begin
-one_to_one a b e = ap (λ (w : TeamWork). job_or a w) e
+one_to_one a b e = ap (λ (w : Work). job_or a w) e
   where
-    job_or : JobParts → TeamWork → JobParts
+    job_or : JobParts → Work → JobParts
     job_or j (Begin job) = job
     job_or j (Ready c) = j
 
@@ -42,6 +43,31 @@ team_lends p around start es before after job serves taken same =
       subst (λ t. LendsMember p around start es t job) (sym same) record { jobs = serves.jobs; done = k; own = next.0; stands = next.1; served = serves.served },
       next_jobs_are_fresh p around start es (nested_of before.nested) before.opened k (job_of job) serves.jobs.there (seen_job before.barrier.jobs _ k job serves.jobs.same next.0) serves.served,
     )
+
+-- A team that is done gives nothing. Otherwise it gives its next job.
+pub team_rests : (team : TeamParts) → IsOver team → GivesLone (Team team) Nothing (Team team)
+team_rests team done settled =
+    record { construct = refl; left = omega arith; account = settled; over = λ is home. done; served = λ p around start es serving. serving }
+
+pub team_gives : (before : TeamParts) (after : AgendaParts Work) (job : JobParts) → ¬ IsOver before → TakesNext before.agenda (Run (Begin job)) after →
+    GivesLone (Team before) (Run job) (Team (with_agenda before after))
+team_gives before after job never taken (inl over) = absurd (never over)
+team_gives before after job never taken (inr runs) = record {
+  construct = refl;
+  left = (let less = hand_out_less (Begin job) before.agenda after runs.account.1.none_ready taken in omega (arith, less));
+  account = hand_out Begin one_to_one before.barrier before.agenda after job runs.account taken;
+  over = λ is. absurd (goes_on is);
+  served = λ p around start es serving. elim serving.1 [
+    | inl failed ↦ absurd (never (inr failed))
+    | inr well ↦ elim well [
+      | inl served ↦ absurd (never (inl served.last))
+      | inr phase ↦ let lends = team_lends p around start es before (with_agenda before after) job phase taken refl in ((serving.0, lends.0), (serving.0, lends.1))
+    ]
+  ];
+}
+  where
+    goes_on : Run job ≡ Nothing → ⊥
+    goes_on e = cc
 
 -- The opened phase is the last one, or the next one can be begun.
 turned : (p : Plan) (around : ℕ) (start es : List Entry) (now after : TeamParts) → HasServed p around start es (nested_of now.nested) now.opened 0 → now.agenda.ready ≡ [] → GoesOn now after →

@@ -14,7 +14,7 @@ use Rattle.step_eval.specs.Nests.{NestedParts, nested_of, IsFitNest}
 use Rattle.step_eval.specs.Phases.{store_before}
 use Rattle.step_eval.proofs.PhaseLemmas.{jobs_are_groups, jobs_are_counted}
 use Rattle.loop_team.specs.Teams.{TeamParts, IsOver, AreJobsIn, GoesOn, MovesOn, opened_team, with_phase, with_barrier, phases_in, members_in}
-use Rattle.loop_team.specs.declared.work.TeamWork.TheVariants.{Begin}
+use Rattle.step_eval.specs.declared.work.Work.TheVariants.{Begin}
 use Rattle.lone_hart.specs.Accounts.{Stands, AllCameBack, AllButOneCameBack}
 use Rattle.lone_hart.specs.Sites.{IsRunning, team_jobs_left}
 use Rattle.lone_hart.proofs.Accounts.{none_out, came_back, out_place}

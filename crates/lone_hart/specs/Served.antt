@@ -6,12 +6,14 @@ use Rattle.array_jobs.specs.Jobs.{JobParts}
 use Rattle.join_book.specs.Books.{HasFailed}
 use Rattle.step_eval.specs.Nests.{NestedParts, nested_of}
 use Rattle.forkjoin_sched.specs.Pools.{PoolParts}
-use Rattle.forkjoin_sched.specs.declared.work.PoolWork.TheVariants as pool_work
+use Rattle.step_eval.specs.declared.work.Work.TheVariants.{Begin}
 use Rattle.loop_team.specs.Teams.{TeamParts, AreJobsIn, phases_in}
-use Rattle.loop_team.specs.declared.work.TeamWork.TheVariants as team_work
+use Rattle.sched_api.specs.declared.scheduler.Next.{Next}
+use Rattle.hart_work.specs.Sites.{SiteFacts, Gives}
+use Rattle.job_machines.specs.Accounts.{is_fresh_job}
 use Rattle.job_machines.specs.Orders.{HasServed}
 use Rattle.lone_hart.specs.Accounts.{Stands}
-use Rattle.lone_hart.specs.Sites.{IsPoolOf}
+use Rattle.lone_hart.specs.Sites.{IsPoolOf, construct_in, jobs_left, IsSettledSite, IsOwed, IsOverSite}
 use Rattle.lone_hart.specs.declared.site.LoneSite.{LoneSite}
 use Rattle.lone_hart.specs.declared.site.LoneSite.TheVariants.{Base, Pool, Team}
 
@@ -20,7 +22,7 @@ pub record ServesPool (p : Plan) (around : ℕ) (start es : List Entry) (nested 
     (pool : PoolParts) : Type 0 where
   pub done : ℕ
   pub of : IsPoolOf nested pool
-  pub stands : Stands pool_work.Begin pool.book pool.agenda done done
+  pub stands : Stands Begin pool.book pool.agenda done done
   pub served : HasServed p around start es (nested_of nested) 0 done
 
 -- The jobs that the pool handed out have run, except this one, which it handed out last.
@@ -29,14 +31,14 @@ pub record LendsJob (p : Plan) (around : ℕ) (start es : List Entry) (nested : 
   pub done : ℕ
   pub own : slice_get pool.book.jobs done ≡ Some job
   pub of : IsPoolOf nested pool
-  pub stands : Stands pool_work.Begin pool.book pool.agenda done (suc done)
+  pub stands : Stands Begin pool.book pool.agenda done (suc done)
   pub served : HasServed p around start es (nested_of nested) 0 done
 
 -- The jobs of the opened phases have run, and those of the next phase that the team handed out.
 pub record ServesPhase (p : Plan) (around : ℕ) (start es : List Entry) (t : TeamParts) : Type 0 where
   pub jobs : AreJobsIn t.nested t.opened t.barrier.jobs
   pub done : ℕ
-  pub stands : Stands team_work.Begin t.barrier t.agenda done done
+  pub stands : Stands Begin t.barrier t.agenda done done
   pub served : HasServed p around start es (nested_of t.nested) t.opened done
 
 -- All phases of the team have run.
@@ -50,7 +52,7 @@ pub record LendsMember (p : Plan) (around : ℕ) (start es : List Entry) (t : Te
   pub jobs : AreJobsIn t.nested t.opened t.barrier.jobs
   pub done : ℕ
   pub own : slice_get t.barrier.jobs done ≡ Some job
-  pub stands : Stands team_work.Begin t.barrier t.agenda done (suc done)
+  pub stands : Stands Begin t.barrier t.agenda done (suc done)
   pub served : HasServed p around start es (nested_of t.nested) t.opened done
 
 -- A pool without a failed job was served in this way.
@@ -82,3 +84,28 @@ abbrev pub is_failed : LoneSite → Type 0
 is_failed (Base base) = ⊥
 is_failed (Pool nested pool) = HasFailed pool.book
 is_failed (Team t) = t.failed ≡ true
+
+-- The number of the site.
+abbrev pub number_in : LoneSite → ℕ
+number_in (Base base) = 0
+number_in (Pool nested pool) = pool.site
+number_in (Team t) = t.nested.site
+
+-- What contracts see of a site.
+abbrev pub lone_facts : SiteFacts LoneSite JobParts NestedParts
+lone_facts = record {
+  construct = construct_in;
+  number = number_in;
+  settled = IsSettledSite;
+  owed = IsOwed;
+  over = IsOverSite;
+  failed = is_failed;
+  serving = is_serving;
+  lent = is_lent;
+  left = jobs_left;
+}
+
+-- The only hart's next action at a settled site.
+abbrev pub GivesLone : LoneSite → Next JobParts → LoneSite → Type 0
+GivesLone before next after =
+    IsSettledSite before → Gives lone_facts is_fresh_job before next after

@@ -10,10 +10,9 @@ use Rattle.sched_api.specs.declared.agenda.TheConstants.{MOST_WISHES}
 use Rattle.base_sched.specs.Oldest as base
 use Rattle.forkjoin_sched.specs.Pools as pools
 use Rattle.forkjoin_sched.specs.Pools.{PoolParts}
-use Rattle.forkjoin_sched.specs.declared.work.PoolWork.TheVariants as pool
+use Rattle.step_eval.specs.declared.work.Work.TheVariants.{Begin}
 use Rattle.loop_team.specs.Teams as teams
 use Rattle.loop_team.specs.Teams.{TeamParts, phases_in, members_in, IsOver}
-use Rattle.loop_team.specs.declared.work.TeamWork.TheVariants as team
 use Rattle.lone_hart.specs.Accounts.{AllCameBack, AllButOneCameBack}
 use Rattle.lone_hart.specs.declared.site.LoneSite.{LoneSite}
 use Rattle.lone_hart.specs.declared.site.LoneSite.TheVariants.{Base, Pool, Team}
@@ -48,19 +47,19 @@ pub record IsPoolOf (nested : NestedParts) (p : PoolParts) : Type 0 where
 -- A team that isn't done waits for a piece, and all jobs that it handed out came back.
 pub record IsRunning (t : TeamParts) : Type 0 where
   pub waits : ¬ IsFull t.barrier
-  pub account : AllCameBack team.Begin t.barrier t.agenda
+  pub account : AllCameBack Begin t.barrier t.agenda
 
 -- Every job that the site handed out came back.
 abbrev pub IsSettledSite : LoneSite → Type 0
 IsSettledSite (Base base) = Unit {0}
-IsSettledSite (Pool nested p) = IsPoolOf nested p × AllCameBack pool.Begin p.book p.agenda
+IsSettledSite (Pool nested p) = IsPoolOf nested p × AllCameBack Begin p.book p.agenda
 IsSettledSite (Team t) = IsOver t ⊎ IsRunning t
 
 -- Every job that the site handed out came back, except this one. The base hands out no job.
 abbrev pub IsOwed : LoneSite → JobParts → Type 0
 IsOwed (Base base) job = ⊥
-IsOwed (Pool nested p) job = IsPoolOf nested p × AllButOneCameBack pool.Begin p.book p.agenda job
-IsOwed (Team t) job = AllButOneCameBack team.Begin t.barrier t.agenda job
+IsOwed (Pool nested p) job = IsPoolOf nested p × AllButOneCameBack Begin p.book p.agenda job
+IsOwed (Team t) job = AllButOneCameBack Begin t.barrier t.agenda job
 
 -- The work of the site is done.
 abbrev pub IsOverSite : LoneSite → Type 0

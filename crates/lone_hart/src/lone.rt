@@ -1,38 +1,33 @@
-//! The schedulers of the sites, as the single hart has them.
-ghost use Rattle.std.specs.Prelude.{◌≡◌, ◌≤◌, ℕ, Some};
-ghost use Rattle.lone_hart.specs.Sites.{construct_in, jobs_left, IsSettledSite, IsOwed, IsOverSite, HearsAt};
-ghost use Rattle.lone_hart.specs.Served.{is_serving, is_lent, is_failed};
-
+//! The sites, as the single hart has them.
 use crate::pools::{deposit_in_pool, fail_in_pool, next_of_pool, open_pool, take_from_pool};
 use crate::site::LoneSite;
 use crate::teams::{arrive_in_team, fail_in_team, next_of_team, open_team};
 use array_eval::Overlay;
 use array_jobs::{Job, Piece};
 use array_tree::Block;
-use hart_port::{Entered, Port, Taken};
-use hart_work::{Schedulers, Task};
+use hart_work::{Sites, tell};
 use job_machines::JobMachines;
-use sched_api::{sched_register, sched_request, sched_unregister, sched_yield};
+use sched_api::{Call, Next, Scheduler, Told};
 use std::alloc::{AllocError, Global};
 use std::marker::PhantomData;
 use step_eval::{Kind, Nested};
 
 /// The schedulers of the sites, as the single hart has them. No other hart knows them, and no call blocks.
 #[derive(Drop)]
-pub struct LoneSchedulers<'p> {
+pub struct LoneSites<'p> {
     of: PhantomData<&'p Block>,
 }
 
-impl<'p> LoneSchedulers<'p> {
+impl<'p> LoneSites<'p> {
     /// The schedulers of a run at its begin.
-    pub fn new() -> LoneSchedulers<'p> {
-        LoneSchedulers { of: PhantomData }
+    pub fn new() -> LoneSites<'p> {
+        LoneSites { of: PhantomData }
     }
 }
 
-impl<'p, R> Schedulers<R, JobMachines<'p>> for LoneSchedulers<'p> {
-    ghost use Rattle.lone_hart.specs.Sites.{construct_in, jobs_left, IsSettledSite, IsOwed, IsOverSite, HearsAt};
-    ghost use Rattle.lone_hart.specs.Served.{is_serving, is_lent, is_failed};
+impl<'p, R> Sites<R, JobMachines<'p>> for LoneSites<'p> {
+    ghost use Rattle.lone_hart.specs.Sites.{HearsAt};
+    ghost use Rattle.lone_hart.specs.Served.{lone_facts};
 
     type Site = LoneSite<'p>;
 
@@ -43,21 +38,7 @@ impl<'p, R> Schedulers<R, JobMachines<'p>> for LoneSchedulers<'p> {
 
     ghost keeps = { Unit {0} };
 
-    ghost construct = { construct_in };
-
-    ghost settled = { IsSettledSite };
-
-    ghost serving = { is_serving };
-
-    ghost left = { jobs_left };
-
-    ghost owed = { IsOwed };
-
-    ghost over = { IsOverSite };
-
-    ghost lent = { is_lent };
-
-    ghost failed = { is_failed };
+    ghost facts = { lone_facts };
 
     ghost hears = { HearsAt };
 
@@ -78,119 +59,48 @@ impl<'p, R> Schedulers<R, JobMachines<'p>> for LoneSchedulers<'p> {
     }
 
     /// There is no other hart that could open a site.
-    fn find(&mut self, _rt: &R, _site: u16) -> Option<LoneSite<'p>> {
+    fn find(&mut self, _rt: &R, _number: u16) -> Option<LoneSite<'p>> {
         None
     }
 
-    fn register<P: Port>(
-        &mut self,
-        _rt: &R,
-        port: &mut P,
-        hold: P::Hold,
-        around: &mut LoneSite<'p>,
-        child: u16,
-    ) -> Result<(), Taken> {
-        match around {
-            LoneSite::Base(base) => {
-                sched_register(port, hold, base, (), child)?;
-            }
-            LoneSite::Pool { pool, .. } => {
-                sched_register(port, hold, pool, (), child)?;
-            }
-            LoneSite::Team(team) => {
-                sched_register(port, hold, team, (), child)?;
-            }
+    fn number(&self, site: &LoneSite<'p>) -> u16 {
+        match site {
+            LoneSite::Base(base) => base.site(),
+            LoneSite::Pool { pool, .. } => pool.site(),
+            LoneSite::Team(team) => team.site(),
         }
-        Ok(())
     }
 
-    /// There is no other hart that could take a piece.
-    fn offer(&mut self, _rt: &R, _site: &LoneSite<'p>) {}
-
-    fn request<P: Port>(
+    fn hear(
         &mut self,
         _rt: &R,
-        port: &mut P,
-        hold: P::Hold,
-        around: &mut LoneSite<'p>,
+        site: &mut LoneSite<'p>,
+        call: Call,
         child: u16,
         count: u8,
-    ) {
-        match around {
-            LoneSite::Base(base) => {
-                sched_request(port, hold, base, (), child, count);
-            }
-            LoneSite::Pool { pool, .. } => {
-                sched_request(port, hold, pool, (), child, count);
-            }
-            LoneSite::Team(team) => {
-                sched_request(port, hold, team, (), child, count);
-            }
-        }
-    }
-
-    fn unregister<P: Port>(
-        &mut self,
-        _rt: &R,
-        port: &mut P,
-        hold: P::Hold,
-        around: &mut LoneSite<'p>,
-    ) {
-        match around {
-            LoneSite::Base(base) => {
-                sched_unregister(port, hold, base, ());
-            }
-            LoneSite::Pool { pool, .. } => {
-                sched_unregister(port, hold, pool, ());
-            }
-            LoneSite::Team(team) => {
-                sched_unregister(port, hold, team, ());
-            }
-        }
-    }
-
-    /// Inside a site there is nothing for a guest: the single hart is the home of each open site.
-    fn enter<P: Port>(
-        &mut self,
-        _rt: &R,
-        port: &mut P,
-        hold: P::Hold,
-        _site: &mut LoneSite<'p>,
-        child: u16,
-    ) -> Option<Task<Job<'p>>> {
-        match port.try_enter(hold, child) {
-            Entered::Inside => Some(Task::Nothing),
-            _ => None,
-        }
-    }
-
-    fn give_back<P: Port>(
-        &mut self,
-        _rt: &R,
-        port: &mut P,
-        hold: P::Hold,
-        around: &mut LoneSite<'p>,
-    ) {
-        match around {
-            LoneSite::Base(base) => {
-                sched_yield(port, hold, base, ());
-            }
-            LoneSite::Pool { pool, .. } => {
-                sched_yield(port, hold, pool, ());
-            }
-            LoneSite::Team(team) => {
-                sched_yield(port, hold, team, ());
-            }
-        }
-    }
-
-    fn next(&mut self, _rt: &R, site: &mut LoneSite<'p>, _is_home: bool) -> Task<Job<'p>> {
+    ) -> Told {
         match site {
-            LoneSite::Base(_) => Task::Nothing,
+            LoneSite::Base(base) => tell(base, (), call, child, count),
+            LoneSite::Pool { pool, .. } => tell(pool, (), call, child, count),
+            LoneSite::Team(team) => tell(team, (), call, child, count),
+        }
+    }
+
+    fn next(&mut self, _rt: &R, site: &mut LoneSite<'p>) -> Next<Job<'p>> {
+        match site {
+            LoneSite::Base(_) => Next::Nothing,
             LoneSite::Pool { pool, .. } => next_of_pool(pool),
             LoneSite::Team(team) => next_of_team(team),
         }
     }
+
+    /// There is no other hart that could move in between.
+    fn tries_again(&mut self, _rt: &R, _site: &mut LoneSite<'p>) -> bool {
+        false
+    }
+
+    /// There is no other hart that could take a piece.
+    fn offer(&mut self, _rt: &R, _site: &LoneSite<'p>) {}
 
     fn deposit(&mut self, _rt: &R, _alloc: Global, site: &mut LoneSite<'p>, piece: Piece<'p>) {
         match site {

@@ -1,24 +1,19 @@
 //! Pools, as the single hart has them.
 ghost use Rattle.std.specs.Prelude.{◌≡◌, ◌≤◌, ◌⊎◌, ℕ, List, IfOk, IsErr, length, suc};
-ghost use Rattle.transfer_table.specs.Plan.{Plan};
-ghost use Rattle.transfer_table.specs.declared.entry.Entry.{Entry};
 ghost use Rattle.array_tree.specs.Trees.{statement_of};
 ghost use Rattle.array_jobs.specs.Jobs.{JobParts, job_of};
 ghost use Rattle.join_book.specs.Books.{Filled, IsFull, HasFailed, marked_book};
 ghost use Rattle.step_eval.specs.Nests.{NestedParts, nested_of, nested_writes, phases_of};
-ghost use Rattle.job_machines.specs.Machines.{IsFreshJob};
-ghost use Rattle.forkjoin_sched.specs.declared.work.PoolWork.TheVariants.{Begin};
-ghost use Rattle.hart_work.specs.Tasks.{HasNext, HasAccount};
-ghost use Rattle.hart_work.specs.Accounts.{HasServing};
+ghost use Rattle.step_eval.specs.declared.work.Work.TheVariants.{Begin};
 ghost use Rattle.lone_hart.specs.Accounts.{Stands, AllCameBack, AllButOneCameBack};
-ghost use Rattle.lone_hart.specs.Served.{serves_pool, LendsJob};
+ghost use Rattle.lone_hart.specs.Served.{GivesLone};
+ghost use Rattle.lone_hart.specs.declared.site.LoneSite.TheVariants as LoneSite;
 ghost use Rattle.lone_hart.specs.Sites.{IsPoolOf, wishes_inside};
 
 use crate::wishes::room_for_wishes;
 use array_eval::Overlay;
 use array_jobs::{Job, Piece};
 use forkjoin_sched::{Pool, PoolWork};
-use hart_work::Task;
 use sched_api::{Next, sched_reenter};
 use std::alloc::{AllocError, Global};
 use step_eval::{Nested, jobs_of};
@@ -43,30 +38,20 @@ pub fn open_pool<'p>(alloc: Global, nested: &Nested<'p>) -> Result<Pool<'p>, All
 }
 
 /// The next action of the hart in the pool: the next job, or nothing if every job came back or one failed.
-pub fn next_of_pool<'p>(pool: &mut Pool<'p>) -> Task<Job<'p>>
-    requires { AllCameBack Begin pool.old.book pool.old.agenda }
-    ensures book { pool.new.book ≡ pool.old.book }
-    ensures left { HasNext (length pool.old.agenda.unbegun) result
-        (length pool.new.agenda.unbegun) }
-    ensures account { HasAccount (AllCameBack Begin pool.new.book pool.new.agenda)
-        (AllButOneCameBack Begin pool.new.book pool.new.agenda) result }
-    ensures over { result ≡ Task.Nothing → IsFull pool.new.book ⊎ HasFailed pool.new.book }
-    ensures served { (nested : NestedParts) (p : Plan) (around : ℕ) (start es : List Entry)
-        → serves_pool nested pool.old p around start es
-        → HasServing (serves_pool nested pool.new p around start es) (λ job.
-        LendsJob p around start es nested pool.new job × IsFreshJob p around es (job_of job))
-        result }
+pub fn next_of_pool<'p>(pool: &mut Pool<'p>) -> Next<Job<'p>>
+    ensures site { pool.new.site ≡ pool.old.site }
+    ensures gives { (nested : NestedParts)
+        → GivesLone (LoneSite.Pool nested pool.old) result (LoneSite.Pool nested pool.new) }
 {
     if pool.has_failed() || pool.is_full() {
-        return Task::Nothing;
+        return Next::Nothing;
     }
     match sched_reenter(pool, ()) {
-        Next::Run(PoolWork::Begin(job)) => Task::Piece(job),
-        // No context waits, so none is ready.
-        Next::Run(PoolWork::Ready(_)) => unreachable!(),
-        // Why: each job that was begun came back, so a job that wasn't begun is left.
-        Next::Lend(_) => unreachable!(),
-        Next::Nothing => unreachable!(),
+        Next::Run(PoolWork::Begin(job)) => Next::Run(job),
+        // If each job that was begun came back, a job that wasn't begun is left, and no context waits.
+        Next::Run(PoolWork::Ready(_)) => Next::Nothing,
+        Next::Lend(_) => Next::Nothing,
+        Next::Nothing => Next::Nothing,
     }
 }
 

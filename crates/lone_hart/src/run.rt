@@ -13,7 +13,7 @@ ghost use Rattle.job_machines.specs.Machines.{IsRunJob};
 ghost use Rattle.site_steps.specs.Back.{IsSettled, IsBack};
 ghost use Rattle.lone_hart.specs.Journals.{entries_in, IsListed};
 
-use crate::lone::LoneSchedulers;
+use crate::lone::LoneSites;
 use crate::outcome::{Journal, Outcome};
 use crate::site::LoneSite;
 use array_eval::{Overlay, Store};
@@ -88,7 +88,7 @@ fn run_body<'p>(
         &|_, _| {},
         port,
         (),
-        &mut LoneSchedulers::new(),
+        &mut LoneSites::new(),
         &mut base,
         job,
     )

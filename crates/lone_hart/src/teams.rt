@@ -8,16 +8,14 @@ ghost use Rattle.array_jobs.specs.Jobs.{JobParts, job_of};
 ghost use Rattle.step_eval.specs.Nests.{nested_of, IsFitNest};
 ghost use Rattle.job_machines.specs.Machines.{IsFreshJob, IsRunJob};
 ghost use Rattle.loop_team.specs.Teams.{IsOver, AreJobsIn};
-ghost use Rattle.loop_team.specs.declared.work.TeamWork.TheVariants.{Begin};
-ghost use Rattle.hart_work.specs.Tasks.{HasNext, HasAccount};
-ghost use Rattle.hart_work.specs.Accounts.{HasServing};
+ghost use Rattle.step_eval.specs.declared.work.Work.TheVariants.{Begin};
 ghost use Rattle.lone_hart.specs.Accounts.{Stands, AllButOneCameBack};
-ghost use Rattle.lone_hart.specs.Served.{serves_team, LendsMember};
+ghost use Rattle.lone_hart.specs.Served.{serves_team, LendsMember, GivesLone};
+ghost use Rattle.lone_hart.specs.declared.site.LoneSite.TheVariants as LoneSite;
 ghost use Rattle.lone_hart.specs.Sites.{IsRunning, team_jobs_left, wishes_inside};
 
 use crate::wishes::room_for_wishes;
 use array_jobs::{Job, Piece};
-use hart_work::Task;
 use loop_team::{Team, TeamWork};
 use sched_api::{Next, sched_reenter};
 use std::alloc::{AllocError, Global};
@@ -50,28 +48,20 @@ pub fn open_team<'p>(alloc: Global, nested: Nested<'p>) -> Result<Team<'p>, Allo
 }
 
 /// The next action of the hart in the team: the next job, or nothing if the team is done.
-pub fn next_of_team<'p>(team: &mut Team<'p>) -> Task<Job<'p>>
-    requires { IsOver team.old ⊎ IsRunning team.old }
+pub fn next_of_team<'p>(team: &mut Team<'p>) -> Next<Job<'p>>
     ensures nested { team.new.nested ≡ team.old.nested }
-    ensures left { HasNext (team_jobs_left team.old) result (team_jobs_left team.new) }
-    ensures account { HasAccount (IsOver team.new ⊎ IsRunning team.new)
-        (AllButOneCameBack Begin team.new.barrier team.new.agenda) result }
-    ensures over { result ≡ Task.Nothing → IsOver team.new }
-    ensures served { (p : Plan) (around : ℕ) (start es : List Entry)
-        → serves_team team.old p around start es
-        → HasServing (serves_team team.new p around start es) (λ job.
-        LendsMember p around start es team.new job × IsFreshJob p around es (job_of job)) result }
+    ensures gives { GivesLone (LoneSite.Team team.old) result (LoneSite.Team team.new) }
 {
     if team.is_over() {
-        return Task::Nothing;
+        return Next::Nothing;
     }
     match sched_reenter(team, ()) {
-        Next::Run(TeamWork::Begin(job)) => Task::Piece(job),
-        // No context waits, so none is ready.
-        Next::Run(TeamWork::Ready(_)) => unreachable!(),
-        // Why: the current phase waits for a piece, and each job that was begun came back, so a job that wasn't begun is left.
-        Next::Lend(_) => unreachable!(),
-        Next::Nothing => unreachable!(),
+        Next::Run(TeamWork::Begin(job)) => Next::Run(job),
+        // If each job that was begun came back, a job that wasn't begun is left, since the current phase waits for a piece. No
+        // context waits.
+        Next::Run(TeamWork::Ready(_)) => Next::Nothing,
+        Next::Lend(_) => Next::Nothing,
+        Next::Nothing => Next::Nothing,
     }
 }
 

@@ -7,7 +7,7 @@ use Rattle.array_tree.proofs.tree.Expr.TheLaws.TheKnot as ExprKnot
 use Rattle.array_tree.proofs.tree.Stmt.TheLaws.TheKnot as StmtKnot
 use Rattle.array_jobs.specs.contracts.job.Job as Job
 use Rattle.sched_api.specs.contracts.agenda.Agenda as Agenda
-use Rattle.forkjoin_sched.specs.contracts.work.PoolWork as PoolWork
+use Rattle.step_eval.specs.contracts.work.Work as Work
 use Rattle.forkjoin_sched.specs.contracts.pool.Pool as Pool
 use Rattle.forkjoin_sched.specs.contracts.shared.SharedPool as SharedPool
 use Rattle.loop_team.proofs.Crossings.{job_send, paused_send, book_send, shared_team_send, shared_team_sync}
@@ -23,10 +23,10 @@ module _ (l : NamedLft) where
   job_sync : IsSync (Job.the_row l)
   job_sync = search (crosses, ExprKnot.crosses, StmtKnot.crosses, sendable) depth 60 fits 20000
 
-  pool_work_send : IsSend (PoolWork.the_row l)
+  pool_work_send : IsSend (Work.the_row l)
   pool_work_send = let job = job_send l in let paused = paused_send l in search (crosses, sendable) depth 60 fits 20000
 
-  pool_agenda_send : IsSend (Agenda.the_row (PoolWork.the_row l))
+  pool_agenda_send : IsSend (Agenda.the_row (Work.the_row l))
   pool_agenda_send = let work = pool_work_send in search (crosses, sendable) depth 60 fits 20000
 
   pool_send : IsSend (Pool.the_row l)

@@ -1,8 +1,7 @@
 pub mod ClaimRows
 pub mod Identities
 pub mod Places
-pub mod Hands
-pub mod Told
+pub mod Completed
+pub mod Work
 pub mod HartLocals
-pub mod Facts
 pub mod Keeping

@@ -7,6 +7,8 @@ use Rattle.shared_sites.specs.declared.scheduler_ref.PoolPlace.{PoolPlace}
 use Rattle.shared_sites.specs.declared.scheduler_ref.TeamPlace.{TeamPlace}
 use Rattle.shared_sites.specs.declared.scheduler_ref.SchedulerRef.{SchedulerRef}
 use Rattle.shared_sites.specs.declared.scheduler_ref.SchedulerRef.TheVariants.{Base, Pool, Team, Pipe, NoScheduler}
+use Rattle.shared_sites.specs.declared.shared_site.SharedSite.{SharedSite}
+use Rattle.shared_sites.specs.declared.shared_site.SharedSite.TheVariants as shared
 use Rattle.shared_sites.specs.Identities.{HartLocalIdentities}
 
 -- There is a deque of this home and level.
@@ -26,10 +28,9 @@ Fits k (Team place) = TeamFits k.seat place
 Fits k (Pipe pipe) = Unit {0}
 Fits k NoScheduler = Unit {0}
 
--- The site of the scheduler; the base for `NoScheduler`.
-abbrev pub site_at : SchedulerRef → ℕ
-site_at (Base base) = 0
-site_at (Pool place) = place.pool.now.site
-site_at (Team place) = place.team.now.site
-site_at (Pipe pipe) = pipe.now.site
-site_at NoScheduler = 0
+-- The site of the scheduler; the base for `Alone`.
+abbrev pub site_at : SharedSite → ℕ
+site_at (shared.Pool home pool) = pool.site
+site_at (shared.Team team) = team.site
+site_at (shared.Pipe pipe) = pipe.site
+site_at shared.Alone = 0

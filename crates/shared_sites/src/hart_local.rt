@@ -1,36 +1,30 @@
 //! The hart-local state for all sites: its deques, its seat, and the counters of each site.
-ghost use Rattle.std.specs.Prelude.{◌≡◌, ◌≢◌, ◌<◌, ◌≤◌, ◌+◌, ◌↔◌, ◌⊎◌, [], false, None, IsTrue, IfOk, IfSome, length, map, option_map, reverse, vec_len};
+ghost use Rattle.std.specs.Prelude.{◌≡◌, ◌≤◌, ◌+◌, ◌↔◌, [], false, IsTrue, IfOk, IfSome, length, map, option_map, reverse, vec_len};
 ghost use Rattle.std.specs.Option.{ForSome};
 ghost use Rattle.deque_rows.specs.Rows.{IsLevel, home_log, row_room, identity as rows_identity};
 ghost use Rattle.claim_words.specs.Seats.{IsOf, identity as seat_identity};
-ghost use Rattle.shared_sites.specs.Places.{Fits, PoolFits, TeamFits, site_at};
-ghost use Rattle.shared_sites.specs.Hands.{HasTried, IsCompleted};
+ghost use Rattle.shared_sites.specs.Places.{Fits, PoolFits, TeamFits};
+ghost use Rattle.shared_sites.specs.Completed.{IsCompleted};
 ghost use Rattle.shared_sites.specs.HartLocals.{AreHartLocals};
 ghost use Rattle.shared_sites.specs.Keeping.{handed_to, HandsOver, StillKeeps};
-ghost use Rattle.shared_sites.specs.Told.{inside};
+ghost use Rattle.hart_work.specs.Told.{told_by};
 ghost use Rattle.forkjoin_sched.specs.Batches.{emptied};
-ghost use Rattle.hart_port.specs.Count.{Rose};
-ghost use Rattle.hart_port.specs.PortView.{IsPortView, is_in, Registers, MayRequest, requested_by, yielded, MayUnregister, unregistered};
-ghost use Rattle.sched_api.specs.Calls.{RoseUnlessLent};
-ghost use Rattle.transfer_table.specs.Plan.{IsSite, parent as parent_of};
 
 use crate::claims::Claims;
 use crate::completed::Completed;
-use crate::hand::Hand;
 use crate::kept::keep;
 use crate::scheduler_ref::{PoolPlace, SchedulerRef, TeamPlace};
 use crate::shared_site::SharedSite;
+use crate::work::with_job;
 use array_jobs::{Job, Piece};
+use base_sched::SharedBaseHand;
 use crossbeam_utils::Backoff;
 use deque_rows::HartRows;
 use forkjoin_sched::{PieceBatch, SharedPool};
-use hart_port::{Port, Taken};
+use hart_work::{tell, told_by};
 use loop_team::{ClaimSeat, SharedTeam};
 use pipe_sched::PipeHand;
-use sched_api::{
-    Lent, Next, sched_enter, sched_reenter, sched_register, sched_request, sched_unregister,
-    sched_yield,
-};
+use sched_api::{Call, Next, Scheduler, Told};
 use std::alloc::{AllocError, Global};
 use std::marker::Model;
 use std::sync::Wait;
@@ -166,151 +160,44 @@ impl<'t> HartLocal<'t> {
         }
     }
 
-    /// Registers the child, and makes the callback of the scheduler.
-    ///
-    /// # Errors
-    ///
-    /// `Taken` if the child was claimed before.
-    pub fn register<'b, P: Port, R: Wait + 'b>(
+    /// Makes the callback of the scheduler, if there is one.
+    pub fn hear<'b, R: Wait + 'b>(
         &mut self,
         rt: &'b R,
         scheduler_ref: SchedulerRef<'b, '_>,
-        port: &mut P,
-        hold: P::Hold,
-        child: u16,
-    ) -> Result<(), Taken>
-        requires fits { Fits self.old scheduler_ref }
-        requires known { IsSite (P.seen port.old).plan child }
-        requires child { (P.seen port.old).owner ≡ parent_of (P.seen port.old).plan child }
-        ensures does { Registers (P.seen port.old) child result (P.seen port.new) }
-        ensures kept { IsPortView (P.seen port.new) }
-        ensures hart_local { self.new ≡ self.old }
-    {
-        let mut hand = Hand::new(&mut self.rows, &mut self.seat, scheduler_ref);
-        sched_register(port, hold, &mut hand, rt, child)?;
-        Ok(())
-    }
-
-    /// Requests `count` harts for the child, and makes the callback of the scheduler.
-    pub fn request<'b, P: Port, R: Wait + 'b>(
-        &mut self,
-        rt: &'b R,
-        scheduler_ref: SchedulerRef<'b, '_>,
-        port: &mut P,
-        hold: P::Hold,
+        call: Call,
         child: u16,
         count: u8,
-    )
-        requires fits { Fits self.old scheduler_ref }
-        requires known { IsSite (P.seen port.old).plan child }
-        requires may { MayRequest (P.seen port.old) child count }
-        ensures does { P.seen port.new ≡ requested_by (P.seen port.old) child count }
-        ensures kept { IsPortView (P.seen port.new) }
+    ) -> Told
+        requires { Fits self.old scheduler_ref }
+        ensures told { result ≡ told_by call child count }
         ensures hart_local { self.new ≡ self.old }
     {
-        let mut hand = Hand::new(&mut self.rows, &mut self.seat, scheduler_ref);
-        sched_request(port, hold, &mut hand, rt, child, count);
-    }
-
-    /// Unregisters the port's owner, and makes the callback of the scheduler.
-    pub fn unregister<'b, P: Port, R: Wait + 'b>(
-        &mut self,
-        rt: &'b R,
-        scheduler_ref: SchedulerRef<'b, '_>,
-        port: &mut P,
-        hold: P::Hold,
-    )
-        requires fits { Fits self.old scheduler_ref }
-        requires may { MayUnregister (P.seen port.old) }
-        ensures does { P.seen port.new ≡ unregistered (P.seen port.old) }
-        ensures kept { IsPortView (P.seen port.new) }
-        ensures hart_local { self.new ≡ self.old }
-    {
-        let mut hand = Hand::new(&mut self.rows, &mut self.seat, scheduler_ref);
-        sched_unregister(port, hold, &mut hand, rt);
-    }
-
-    /// Gives the hart back from the port's owner, and makes the callback of the scheduler.
-    pub fn give_back<'b, P: Port, R: Wait + 'b>(
-        &mut self,
-        rt: &'b R,
-        scheduler_ref: SchedulerRef<'b, '_>,
-        port: &mut P,
-        hold: P::Hold,
-    )
-        requires fits { Fits self.old scheduler_ref }
-        requires inside { 0 < (P.seen port.old).owner }
-        requires guest { is_in (P.seen port.old).homes (P.seen port.old).owner ≡ false }
-        ensures does { P.seen port.new ≡ yielded (P.seen port.old) }
-        ensures kept { IsPortView (P.seen port.new) }
-        ensures hart_local { self.new ≡ self.old }
-    {
-        let mut hand = Hand::new(&mut self.rows, &mut self.seat, scheduler_ref);
-        sched_yield(port, hold, &mut hand, rt);
-    }
-
-    /// Tries to enter the child until the hart is inside and gets its action, or the child wants no hart. If another hart moved
-    /// at the same time, it tries again. If the hart isn't inside, the port refused it, or the scheduler is of another site.
-    pub fn enter<'b, 'p, P: Port, R: Wait + 'b>(
-        &mut self,
-        rt: &'b R,
-        scheduler_ref: SchedulerRef<'b, 'p>,
-        port: &mut P,
-        hold: P::Hold,
-        child: u16,
-    ) -> Option<Next<Job<'p>>>
-        requires fits { Fits self.old scheduler_ref }
-        requires known { IsSite (P.seen port.old).plan child }
-        requires child { (P.seen port.old).owner ≡ parent_of (P.seen port.old).plan child }
-        ensures does { HasTried (P.seen port.old) child result (P.seen port.new) }
-        ensures count { P.refused port.old ≤ P.refused port.new }
-        ensures refused { result ≡ None → Rose (P.refused port.old) (P.refused port.new)
-            ⊎ (site_at scheduler_ref.entry ≢ child) }
-        ensures kept { IsPortView (P.seen port.new) }
-        ensures hart_local { self.new ≡ self.old }
-    {
-        // Why: reading the owner makes the port's invariant known.
-        let _ = port.owner();
-        if scheduler_ref.site() != child {
-            return None;
+        match scheduler_ref {
+            SchedulerRef::Base(base) => tell(
+                &mut SharedBaseHand::new(base),
+                rt,
+                call,
+                child,
+                count,
+            ),
+            SchedulerRef::Pool(place) => tell(
+                &mut place.hand(&mut self.rows),
+                rt,
+                call,
+                child,
+                count,
+            ),
+            SchedulerRef::Team(place) => tell(
+                &mut place.hand(&mut self.seat),
+                rt,
+                call,
+                child,
+                count,
+            ),
+            SchedulerRef::Pipe(pipe) => tell(&mut PipeHand::new(pipe), rt, call, child, count),
+            SchedulerRef::NoScheduler => told_by(call, child, count),
         }
-        let backoff = Backoff::new();
-        'tries: for _ in rt.forever() {
-            match self.try_once(rt, scheduler_ref, port, hold) {
-                Lent::Inside(Next::Run(None)) => {
-                    let mut kept = None;
-                    return Some(self.next(rt, scheduler_ref, &mut kept, false));
-                }
-                Lent::Inside(Next::Run(Some(job))) => return Some(Next::Run(job)),
-                Lent::Inside(Next::Lend(child)) => return Some(Next::Lend(child)),
-                Lent::Inside(Next::Nothing) => return Some(Next::Nothing),
-                Lent::NotWanted { shown: _ } => return None,
-                Lent::Moved { read: _, found: _ } => backoff.spin(),
-            }
-        }
-        unreachable!()
-    }
-
-    // Tries once to enter the site of the scheduler.
-    fn try_once<'b, 'p, P: Port, R: Wait + 'b>(
-        &mut self,
-        rt: &'b R,
-        scheduler_ref: SchedulerRef<'b, 'p>,
-        port: &mut P,
-        hold: P::Hold,
-    ) -> Lent<Option<Job<'p>>>
-        requires fits { Fits self.old scheduler_ref }
-        requires known { IsSite (P.seen port.old).plan (site_at scheduler_ref) }
-        requires child { (P.seen port.old).owner
-            ≡ parent_of (P.seen port.old).plan (site_at scheduler_ref) }
-        ensures does { HasTried (P.seen port.old) (site_at scheduler_ref.entry) (inside result)
-            (P.seen port.new) }
-        ensures count { RoseUnlessLent result (P.refused port.old) (P.refused port.new) }
-        ensures kept { IsPortView (P.seen port.new) }
-        ensures hart_local { self.new ≡ self.old }
-    {
-        let mut hand = Hand::new(&mut self.rows, &mut self.seat, scheduler_ref);
-        sched_enter(port, hold, &mut hand, rt)
     }
 
     /// The next action of a hart that is inside. A guest gets `Nothing` if there is nothing to do. The hart at the base and the
@@ -376,7 +263,8 @@ impl<'t> HartLocal<'t> {
         }
     }
 
-    // The action that the scheduler returns for a hart inside.
+    // The action that the scheduler returns for a hart inside. `None` is a context that was dropped; no run has one, since no
+    // piece waits at a mutex.
     fn look<'b, 'p, R: Wait + 'b>(
         &mut self,
         rt: &'b R,
@@ -385,8 +273,13 @@ impl<'t> HartLocal<'t> {
         requires { Fits self.old scheduler_ref }
         ensures { self.new ≡ self.old }
     {
-        let mut hand = Hand::new(&mut self.rows, &mut self.seat, scheduler_ref);
-        sched_reenter(&mut hand, rt)
+        match scheduler_ref {
+            SchedulerRef::Base(base) => with_job(SharedBaseHand::new(base).enter(rt)),
+            SchedulerRef::Pool(place) => with_job(place.hand(&mut self.rows).enter(rt)),
+            SchedulerRef::Team(place) => with_job(place.hand(&mut self.seat).enter(rt)),
+            SchedulerRef::Pipe(pipe) => with_job(PipeHand::new(pipe).enter(rt)),
+            SchedulerRef::NoScheduler => Next::Nothing,
+        }
     }
 
     // Whether a hart has to leave although it might get more: the base if it is shut, and the home if the work of its site is

@@ -4,29 +4,25 @@
 //! find it. Each hart reads a cell through a note of its own, so that it never finds another scheduler there than before.
 //!
 //! A hart brings its own access to the deques and its own seat of the claim table (`Claims`) to each shared scheduler; these
-//! are its `HartLocal`. With them it makes its `Hand` on the scheduler of a site, which its `SchedulerRef` names. It doesn't use a
-//! scheduler for which it has no deque or counters.
+//! are its `HartLocal`. With them it calls the scheduler of a site, which a `SchedulerRef` names. It doesn't use a scheduler for
+//! which it has no deque or counters.
 //!
 //! `hart_loop` accesses shared schedulers only by this crate. Begin with `SiteCell` in `directory.rt`, `HartLocal` in `hart_local.rt` and
 //! `SchedulerRef` in `scheduler_ref.rt`; the tests of `shared_tests` publish and find schedulers, those of `harts_tests` run whole programs.
 #![tactic(auto)]
 
-mod calls;
 mod claims;
 mod completed;
 mod directory;
-mod hand;
 mod hart_local;
 mod kept;
 mod scheduler_ref;
 mod shared_site;
 mod work;
 
-pub use calls::HandHeard;
 pub use claims::Claims;
 pub use completed::Completed;
 pub use directory::{SiteCell, cells, lines};
-pub use hand::Hand;
 pub use hart_local::{HartLocal, hart_locals_of};
 pub use scheduler_ref::{PoolPlace, SchedulerRef, TeamPlace};
 pub use shared_site::SharedSite;

@@ -1,8 +1,8 @@
-//! The schedulers on which a hart makes its hand.
+//! References to schedulers.
 ghost use Rattle.std.specs.Prelude.{◌≡◌};
 ghost use Rattle.deque_rows.specs.Rows.{identity as rows_identity};
 ghost use Rattle.claim_words.specs.Seats.{identity as seat_identity};
-ghost use Rattle.shared_sites.specs.Places.{PoolFits, TeamFits, site_at};
+ghost use Rattle.shared_sites.specs.Places.{PoolFits, TeamFits};
 
 use base_sched::SharedBase;
 use deque_rows::HartRows;
@@ -10,7 +10,7 @@ use forkjoin_sched::{PoolHand, SharedPool};
 use loop_team::{ClaimSeat, ClaimTable, SharedTeam, TeamHand};
 use pipe_sched::SharedPipe;
 
-/// The scheduler on which a hart makes its hand, with the position of the site's deque or counters.
+/// A scheduler that harts share, with the position of the site's deque or counters.
 #[derive(Clone, Copy)]
 pub enum SchedulerRef<'b, 'p> {
     /// The base.
@@ -21,22 +21,8 @@ pub enum SchedulerRef<'b, 'p> {
     Team(TeamPlace<'b, 'p>),
     /// A pipe, under its lock.
     Pipe(&'b SharedPipe<'p>),
-    /// No scheduler, or one for which the hart has no deque or counters; no run gets such a reference. Calls of its hand do nothing.
+    /// No scheduler, or one for which the hart has no deque or counters; no run gets such a reference. Its calls do nothing.
     NoScheduler,
-}
-
-impl SchedulerRef<'_, '_> {
-    /// The site of the scheduler; the base for `NoScheduler`.
-    pub(crate) fn site(&self) -> u16
-        ensures { result ≡ site_at self.now }
-    {
-        match self {
-            SchedulerRef::Pool(place) => place.pool.site(),
-            SchedulerRef::Team(place) => place.team.nested().site,
-            SchedulerRef::Pipe(pipe) => pipe.nested().site,
-            SchedulerRef::Base(_) | SchedulerRef::NoScheduler => 0,
-        }
-    }
 }
 
 /// A pool, with the hart whose deque has the job indices of its pieces, and the level of that deque.

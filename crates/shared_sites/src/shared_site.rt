@@ -1,4 +1,7 @@
 //! What the directory publishes for a site.
+ghost use Rattle.std.specs.Prelude.{◌≡◌};
+ghost use Rattle.shared_sites.specs.Places.{site_at};
+
 use forkjoin_sched::SharedPool;
 use loop_team::SharedTeam;
 use pipe_sched::SharedPipe;
@@ -14,4 +17,18 @@ pub enum SharedSite<'p> {
     Pipe(SharedPipe<'p>),
     /// No scheduler: the home computes the construct by itself.
     Alone,
+}
+
+impl SharedSite<'_> {
+    /// The site of the scheduler; the base for `Alone`.
+    pub fn site(&self) -> u16
+        ensures { result ≡ site_at self.now }
+    {
+        match self {
+            SharedSite::Pool { home: _, pool } => pool.site(),
+            SharedSite::Team(team) => team.nested().site,
+            SharedSite::Pipe(pipe) => pipe.nested().site,
+            SharedSite::Alone => 0,
+        }
+    }
 }

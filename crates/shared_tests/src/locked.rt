@@ -1,5 +1,5 @@
 //! Harts that move by ports on one ledger under a lock.
-ghost use Rattle.std.specs.Prelude.{◌≡◌, ◌≤◌, ◌<◌, [], ◌∷◌, All, IfOk, length, map, vec_len};
+ghost use Rattle.std.specs.Prelude.{◌≡◌, ◌≤◌, ◌<◌, All, IfOk, length, map, vec_len};
 ghost use Rattle.transfer_table.specs.Plan.{IsHart};
 ghost use Rattle.claim_words.specs.Seats.{AreAll, identity};
 ghost use Rattle.hart_loop.specs.Harts.{StartsIn};
@@ -10,9 +10,9 @@ use array_tree::Program;
 use base_sched::{Base, SharedBase};
 use deque_rows::rows;
 use disjoint_check::{Accepted, check};
-use hart_loop::{Hart, HartSchedulers, HartSite, TeamMode, work};
+use hart_loop::{Hart, HartSite, HartSites, TeamMode, work};
 use hart_port::{Ledger, LockedPort};
-use hart_work::{Schedulers, run_construct};
+use hart_work::{Sites, run_construct};
 use job_machines::JobMachines;
 use loop_team::ClaimSeat;
 use once_cell::race::OnceBox;
@@ -45,10 +45,10 @@ fn hart<'x, 'p: 'x, R: Threads + Wait + Sync>(
     ensures { IfOk result (λ hart. StartsIn plan.now hart.port.port.view) }
 {
     let port = WaitingPort::new(LockedPort::new(alloc, lock, plan, number)?, rt);
-    let schedulers = HartSchedulers::new(lines(alloc, cells)?, hart_local, TeamMode::Wait);
+    let sites = HartSites::new(lines(alloc, cells)?, hart_local, TeamMode::Wait);
     Ok(Hart {
         port,
-        schedulers,
+        sites,
         base,
         job,
         piece: None,
@@ -293,7 +293,7 @@ fn run_first<'x, 'p: 'x, R: Threads + Wait + Sync>(
 {
     let nested = first_construct(alloc, program)?;
     let mut port = WaitingPort::new(LockedPort::new(alloc, lock, plan, 1)?, rt);
-    let mut schedulers = HartSchedulers::new(lines(alloc, cells)?, hart_local, TeamMode::Wait);
+    let mut sites = HartSites::new(lines(alloc, cells)?, hart_local, TeamMode::Wait);
     let mut around: HartSite<'x, 'p, SharedSite<'p>> = HartSite::base(base);
     Ok(run_construct(
         rt,
@@ -302,7 +302,7 @@ fn run_first<'x, 'p: 'x, R: Threads + Wait + Sync>(
         &|_, _| {},
         &mut port,
         rt,
-        &mut schedulers,
+        &mut sites,
         &mut around,
         nested,
     )?)
@@ -368,72 +368,50 @@ fn open_first<'x, 'p: 'x, R: Wait>(
     hart_local: HartLocal<'x>,
 ) -> Result<(), Fail> {
     let nested = first_construct(alloc, program)?;
-    let mut home = HartSchedulers::new(lines, hart_local, TeamMode::Wait);
-    let _opened = Schedulers::<R, JobMachines<'p>>::open(&mut home, alloc, &nested)?;
+    let mut home = HartSites::new(lines, hart_local, TeamMode::Wait);
+    let _opened = Sites::<R, JobMachines<'p>>::open(&mut home, alloc, &nested)?;
     Ok(())
 }
 
-// Whether the second hart enters site 2 by the scheduler in its cell.
-fn enters_second<'x, 'p: 'x, R: Threads + Wait + Sync>(
+// Whether the second hart finds site 2 by the scheduler in its cell.
+fn finds_second<'x, 'p: 'x, R: Wait>(
     rt: &'x R,
     alloc: Global,
-    plan: &'x Plan,
-    lock: &'x Mutex<Ledger>,
     cells: &'x [OnceBox<SharedSite<'p>>],
     hart_local: HartLocal<'x>,
-) -> Result<bool, Fail>
-    requires plan { plan.now ≡ record { harts = 2; parents = 0 ∷ 0 ∷ [] } }
-    requires cells { length cells.now ≡ 3 }
-{
-    let mut port = WaitingPort::new(LockedPort::new(alloc, lock, plan, 1)?, rt);
-    let mut schedulers = HartSchedulers::new(lines(alloc, cells)?, hart_local, TeamMode::Wait);
-    match schedulers.find(rt, 2) {
-        Some(mut found) => Ok(schedulers.enter(rt, &mut port, rt, &mut found, 2).is_some()),
-        None => Err(Fail::new("nothing is found")),
-    }
+) -> Result<bool, Fail> {
+    let mut sites = HartSites::new(lines(alloc, cells)?, hart_local, TeamMode::Wait);
+    Ok(Sites::<R, JobMachines<'p>>::find(&mut sites, rt, 2).is_some())
 }
 
-// Whether a hart enters site 2 if its cell has the pool of site 1.
-fn enters_by_another<'x, 'p: 'x, R: Threads + Wait + Sync>(
+// Whether a hart finds site 2 if its cell has the pool of site 1.
+fn is_found_by_another<'x, 'p: 'x, R: Wait>(
     rt: &'x R,
     alloc: Global,
     program: &'p Program,
-    plan: &'x Plan,
-    lock: &'x Mutex<Ledger>,
     cells: &'x [OnceBox<SharedSite<'p>>],
     hart_local: (HartLocal<'x>, HartLocal<'x>),
 ) -> Result<bool, Fail>
-    requires plan { plan.now ≡ record { harts = 2; parents = 0 ∷ 0 ∷ [] } }
-    requires cells { length cells.now ≡ 3 }
+    requires { length cells.now ≡ 3 }
 {
     let (own, others) = hart_local;
     let mut turned = lines(alloc, cells)?;
     turned.swap(1, 2);
     open_first(rt, alloc, program, turned, own)?;
-    enters_second(rt, alloc, plan, lock, cells, others)
+    finds_second(rt, alloc, cells, others)
 }
 
 // The same with hart-local states of a run of two harts.
-fn is_entered<R: Threads + Wait + Sync>(
-    rt: &R,
-    alloc: Global,
-    program: &Program,
-    plan: &Plan,
-    lock: &Mutex<Ledger>,
-) -> Result<bool, Fail>
-    requires { plan.now ≡ record { harts = 2; parents = 0 ∷ 0 ∷ [] } }
-{
+fn is_found<R: Wait>(rt: &R, alloc: Global, program: &Program) -> Result<bool, Fail> {
     let cells = cells(alloc, 2)?;
     let (words, claims) = Claims::new(alloc, &check(alloc, program, 2)?, 2)?;
     let hart_local = two_hart_locals(alloc, &words, claims)?;
-    enters_by_another(rt, alloc, program, plan, lock, &cells, hart_local)
+    is_found_by_another(rt, alloc, program, &cells, hart_local)
 }
 
 #[test]
-fn a_site_is_not_entered_by_the_pool_of_another(rt: HostRuntime) -> Result<(), Fail> {
+fn a_site_is_not_found_by_the_pool_of_another(rt: HostRuntime) -> Result<(), Fail> {
     let program = parsed(rt.alloc(), TWO_BRANCHES)?;
-    let plan = Plan::new(rt.alloc(), 2, &[0, 0])?;
-    let lock = Mutex::new(Ledger::new(rt.alloc(), &plan)?);
-    assert!(rt; !is_entered(&rt, rt.alloc(), &program, &plan, &lock)?);
+    assert!(rt; !is_found(&rt, rt.alloc(), &program)?);
     Ok(())
 }

@@ -7,7 +7,7 @@ use Rattle.hart_loop.proofs.crew.crew.Given as goal
 abbrev pub invariant-loop-port : goal.invariant-loop-port
 invariant-loop-port g l = record {
   ports : map (λ hart. hart.port) l.harts.items ≡ l.yielded;
-  rows : map (λ hart. hart.schedulers.hart_local.rows) l.harts.items ++ map (λ t. t.rows) (reverse l.hart_local.items) ≡ map codes.identity l.fn.crew_parts.rows.items;
-  claims : map (λ hart. hart.schedulers.hart_local.seat) l.harts.items ++ map (λ t. t.seat) (reverse l.hart_local.items) ≡ map words.identity l.fn.crew_parts.claims.items;
+  rows : map (λ hart. hart.sites.hart_local.rows) l.harts.items ++ map (λ t. t.rows) (reverse l.hart_local.items) ≡ map codes.identity l.fn.crew_parts.rows.items;
+  claims : map (λ hart. hart.sites.hart_local.seat) l.harts.items ++ map (λ t. t.seat) (reverse l.hart_local.items) ≡ map words.identity l.fn.crew_parts.claims.items;
   count : length l.yielded + vec_len l.hart_local ≡ vec_len l.fn.crew_parts.ports;
 }

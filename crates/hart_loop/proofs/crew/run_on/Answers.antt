@@ -30,8 +30,8 @@ returns-clause-hart_local g c =
     let xs = c.as_mut_slice.result.now in
     let ys = c.run_crew-piece.new.harts in
     let back = with_items_is c.in_ok-harts.harts ys (AllZip-long _ xs ys c.run_crew-piece.ensures.same ∙ c.as_mut_slice.ensures.len) in
-    let rs = c.in_ok-crew_parts_of.ensures.rows ∙ ap (map (λ hart. hart.schedulers.hart_local.rows)) back ∙ rows_stay seen xs ys c.run_crew-piece.ensures.same ∙ ap (map (λ hart. hart.schedulers.hart_local.rows)) c.as_mut_slice.ensures.value ∙ c.in_ok-harts.ensures.rows in
-    let ss = c.in_ok-crew_parts_of.ensures.claims ∙ ap (map (λ hart. hart.schedulers.hart_local.seat)) back ∙ claims_stay seen xs ys c.run_crew-piece.ensures.same ∙ ap (map (λ hart. hart.schedulers.hart_local.seat)) c.as_mut_slice.ensures.value ∙ c.in_ok-harts.ensures.claims in
+    let rs = c.in_ok-crew_parts_of.ensures.rows ∙ ap (map (λ hart. hart.sites.hart_local.rows)) back ∙ rows_stay seen xs ys c.run_crew-piece.ensures.same ∙ ap (map (λ hart. hart.sites.hart_local.rows)) c.as_mut_slice.ensures.value ∙ c.in_ok-harts.ensures.rows in
+    let ss = c.in_ok-crew_parts_of.ensures.claims ∙ ap (map (λ hart. hart.sites.hart_local.seat)) back ∙ claims_stay seen xs ys c.run_crew-piece.ensures.same ∙ ap (map (λ hart. hart.sites.hart_local.seat)) c.as_mut_slice.ensures.value ∙ c.in_ok-harts.ensures.claims in
     record {
       rows = subst rows.AreAll (sym rs) c.requires.hart_local.rows;
       seats = subst (claims.AreAll words.table) (sym ss) c.requires.hart_local.seats;

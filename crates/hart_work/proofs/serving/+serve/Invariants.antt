@@ -2,8 +2,8 @@ use Rattle.std.proofs.Common.{◌≡◌, ◌≤◌, ◌+◌, ◌-◌, ◌*◌, L
 use Rattle.transfer_table.specs.Plan.{site_count}
 use Rattle.site_steps.specs.Back.{IsBack}
 use Rattle.transfer_table.specs.declared.entry.Entry.{Entry}
-use Rattle.hart_work.specs.Tasks.{StaysSettled}
-use Rattle.hart_work.specs.Accounts.{WhereAlone, StaysServed}
+use Rattle.hart_work.specs.Accounts.{WhereAlone}
+use Rattle.hart_work.specs.Sites.{Stays}
 use Rattle.hart_work.proofs.serving.+serve.Given as goal
 
 -- Each site is above the one around it. At one site a hart is a guest, serves, runs a job, runs its piece, then a construct.
@@ -28,28 +28,25 @@ decreases-visit g l = 5 * (site_count l.tree.now - (g.P.Port.seen l.port.now).ow
 abbrev pub invariant-serve-tasks : goal.invariant-serve-tasks
 invariant-serve-tasks g l = record {
   back : IsBack (g.P.Port.seen l.fn.port) (g.P.Port.seen l.port);
-  construct : g.H.Schedulers.construct l.site ≡ g.H.Schedulers.construct l.fn.site;
-  settled : g.H.Schedulers.settled l.site;
-  left : g.H.Schedulers.left l.site ≤ g.H.Schedulers.left l.fn.site;
-  served : WhereAlone (g.P.Port.seen l.fn.port) (λ p around es. (start : List Entry) → g.H.Schedulers.serving l.fn.site p around start es
-      → g.H.Schedulers.serving l.site p around start (g.P.Port.seen l.port).mine);
-  hart_local : g.H.Schedulers.hart_local l.schedulers ≡ g.H.Schedulers.hart_local l.fn.schedulers;
+  construct : g.H.Sites.facts.construct l.site ≡ g.H.Sites.facts.construct l.fn.site;
+  settled : g.H.Sites.facts.settled l.site;
+  left : g.H.Sites.facts.left l.site ≤ g.H.Sites.facts.left l.fn.site;
+  served : WhereAlone (g.P.Port.seen l.fn.port) (λ p around es. (start : List Entry) → g.H.Sites.facts.serving l.fn.site p around start es
+      → g.H.Sites.facts.serving l.site p around start (g.P.Port.seen l.port).mine);
+  hart_local : g.H.Sites.hart_local l.sites ≡ g.H.Sites.hart_local l.fn.sites;
 }
 
 abbrev pub decreases-serve-tasks : goal.decreases-serve-tasks
-decreases-serve-tasks g l = g.H.Schedulers.left l.site
+decreases-serve-tasks g l = g.H.Sites.facts.left l.site
 
 abbrev pub invariant-run_piece-steps : goal.invariant-run_piece-steps
 invariant-run_piece-steps g l = record {
   back : IsBack (g.P.Port.seen l.fn.port) (g.P.Port.seen l.port);
-  construct : g.H.Schedulers.construct l.around ≡ g.H.Schedulers.construct l.fn.around;
-  stays : StaysSettled (g.H.Schedulers.settled l.fn.around) (g.H.Schedulers.owed l.fn.around) (g.H.Schedulers.settled l.around) (g.H.Schedulers.owed l.around);
-  served : StaysServed (g.H.Schedulers.serving l.fn.around) (g.H.Schedulers.lent l.fn.around) (g.H.Schedulers.serving l.around) (g.H.Schedulers.lent l.around);
-  left : g.H.Schedulers.left l.around ≤ g.H.Schedulers.left l.fn.around;
+  stays : Stays g.H.Sites.facts l.fn.around l.around;
   account : WhereAlone (g.P.Port.seen l.fn.port) (λ p around es. g.M.Machines.going l.running p around es (g.P.Port.seen l.port).mine);
   job : g.M.Machines.job_of l.running ≡ l.fn.job;
   ready : g.M.Machines.ready l.running;
-  hart_local : g.H.Schedulers.hart_local l.schedulers ≡ g.H.Schedulers.hart_local l.fn.schedulers;
+  hart_local : g.H.Sites.hart_local l.sites ≡ g.H.Sites.hart_local l.fn.sites;
 }
 
 abbrev pub decreases-run_piece-steps : goal.decreases-run_piece-steps

@@ -1,7 +1,7 @@
 use Rattle.std.proofs.Common.{◌≡◌, suc, sym, subst, ◌∙◌}
 use Rattle.join_book.specs.Books.{Open, Failed, HasFailed, marked_book}
 use Rattle.forkjoin_sched.specs.Pools.{PoolParts, with_book}
-use Rattle.forkjoin_sched.specs.declared.work.PoolWork.TheVariants.{Begin}
+use Rattle.step_eval.specs.declared.work.Work.TheVariants.{Begin}
 use Rattle.lone_hart.specs.Accounts.{AllCameBack}
 use Rattle.lone_hart.proofs.Accounts.{came_back, out_place, marked_now}
 use Rattle.lone_hart.proofs.pools.fail_in_pool.Goals as goal

@@ -1,53 +1,44 @@
-use Rattle.std.proofs.Common.{sym, ap, ◌∙◌, subst, inl, inr}
+use Rattle.std.proofs.Common.{◌≢◌, sym, ap, ◌∙◌, subst, inl, inr}
+use Rattle.array_jobs.specs.Jobs.{JobParts}
+use Rattle.sched_api.specs.declared.scheduler.Next.{Next}
 use Rattle.sched_api.specs.declared.scheduler.Next.TheVariants.{Run}
-use Rattle.join_book.specs.Books.{BookParts}
 use Rattle.sched_api.specs.Agenda.{TakesNext}
-use Rattle.forkjoin_sched.specs.declared.work.PoolWork.TheVariants.{Begin}
-use Rattle.lone_hart.specs.Accounts.{AllButOneCameBack}
-use Rattle.lone_hart.proofs.Accounts.{hand_out, full, none_to_go_on}
-use Rattle.lone_hart.proofs.ServedPools.{one_to_one, pool_lends}
+use Rattle.join_book.specs.Books.{IsFull}
+use Rattle.forkjoin_sched.specs.Pools.{PoolParts}
+use Rattle.step_eval.specs.declared.work.Work.{Work}
+use Rattle.step_eval.specs.declared.work.Work.TheVariants.{Begin}
+use Rattle.lone_hart.specs.Accounts.{AllCameBack}
+use Rattle.lone_hart.proofs.Accounts.{always_begins}
+use Rattle.lone_hart.proofs.ServedPools.{pool_rests, pool_gives}
 use Rattle.lone_hart.proofs.pools.next_of_pool.Goals as goal
+use Rattle.lone_hart.proofs.pools.next_of_pool.Goals.{then-has_failed-via-then-has_failed, then-has_failed-via-else-has_failed+then-is_full}
 
-pub unreachable-requires : goal.unreachable-requires
-unreachable-requires c =
-    let before = c.args.pool.now in
-    none_to_go_on Begin before.book before.agenda c.sched_reenter.new.current.agenda _ (λ job e. cc) c.requires
-    (subst (λ next. TakesNext before.agenda next c.sched_reenter.new.current.agenda) c.in-Run-Ready.is c.sched_reenter.ensures.does.handed)
+-- A pool that isn't full hands out a job.
+none : (before after : PoolParts) (next : Next Work) → AllCameBack Begin before.book before.agenda → ¬ IsFull before.book → TakesNext before.agenda next after.agenda → ((job : JobParts) → next ≢ Run (Begin job)) → ⊥
+none before after next = always_begins Begin before.book before.agenda after.agenda next
 
-pub unreachable-requires-in-Lend : goal.unreachable-requires-in-Lend
-unreachable-requires-in-Lend c =
-    let before = c.args.pool.now in
-    let taken = subst (λ next. TakesNext before.agenda next c.sched_reenter.new.current.agenda) c.in-Lend.is c.sched_reenter.ensures.does.handed in
-    let all = full Begin before.book before.agenda c.requires taken.all_begun in
-    let yes = c.is_full.ensures.1 all in
-    let no = c.if-is_full.false in
-    cc
+pub returns-then-has_failed-clause-gives : goal.returns-then-has_failed-clause-gives
+returns-then-has_failed-clause-gives c = λ nested. pool_rests nested c.args.pool.now (elim c.then-has_failed.branch [
+  | then-has_failed-via-then-has_failed w ↦ inr (c.has_failed.ensures.0 w.if-has_failed.true)
+  | then-has_failed-via-else-has_failed+then-is_full w ↦ inl (w.is_full.ensures.0 w.if-is_full.true)
+])
 
-pub unreachable-requires-in-Nothing : goal.unreachable-requires-in-Nothing
-unreachable-requires-in-Nothing c =
-    let before = c.args.pool.now in
-    let taken = subst (λ next. TakesNext before.agenda next c.sched_reenter.new.current.agenda) c.in-Nothing.is c.sched_reenter.ensures.does.handed in
-    let all = full Begin before.book before.agenda c.requires taken.0.all_begun in
-    let yes = c.is_full.ensures.1 all in
-    let no = c.if-is_full.false in
-    cc
-
-pub returns-clause-account : goal.returns-clause-account
-returns-clause-account c =
+pub returns-in-Run-Begin-clause-gives : goal.returns-in-Run-Begin-clause-gives
+returns-in-Run-Begin-clause-gives c = λ nested.
     let before = c.args.pool.now in
     let after = c.sched_reenter.new.current in
     let does = c.sched_reenter.ensures.does in
     let taken = subst (λ next. TakesNext before.agenda next after.agenda) (c.in-Run-Begin.is ∙ ap Run c.in-Run-Begin.field-0-is) does.handed in
-    subst (λ (book : BookParts). AllButOneCameBack Begin book after.agenda c.in-Run-Begin.job) (sym does.book)
-    (hand_out Begin one_to_one before.book before.agenda after.agenda c.in-Run-Begin.job c.requires taken)
+    pool_gives nested before after c.in-Run-Begin.job (λ failed. let yes = c.has_failed.ensures.1 failed in let no = c.if-has_failed.false in cc) taken does.book
 
-pub returns-clause-served : goal.returns-clause-served
-returns-clause-served c = λ nested p around start es serves.
-    let before = c.args.pool.now in
-    let after = c.sched_reenter.new.current in
-    let does = c.sched_reenter.ensures.does in
-    let taken = subst (λ next. TakesNext before.agenda next after.agenda) (c.in-Run-Begin.is ∙ ap Run c.in-Run-Begin.field-0-is) does.handed in
-    elim serves [
-      | inl failed ↦ absurd (let yes = c.has_failed.ensures.1 failed in let none = c.if-has_failed.false in cc)
-      | inr well ↦ pool_lends p around start es nested before after c.in-Run-Begin.job well taken does.book
-    ]
+pub returns-in-Run-Ready-clause-gives : goal.returns-in-Run-Ready-clause-gives
+returns-in-Run-Ready-clause-gives c = λ nested settled. absurd (none c.args.pool.now c.sched_reenter.new.current c.sched_reenter.result settled.1 (λ full. let yes = c.is_full.ensures.1 full in let no = c.if-is_full.false in cc) c.sched_reenter.ensures.does.handed
+    (λ job e. let clash = sym e ∙ c.in-Run-Ready.is ∙ ap Run c.in-Run-Ready.field-0-is in cc))
+
+pub returns-in-Lend-clause-gives : goal.returns-in-Lend-clause-gives
+returns-in-Lend-clause-gives c = λ nested settled. absurd (none c.args.pool.now c.sched_reenter.new.current c.sched_reenter.result settled.1 (λ full. let yes = c.is_full.ensures.1 full in let no = c.if-is_full.false in cc) c.sched_reenter.ensures.does.handed
+    (λ job e. let clash = sym e ∙ c.in-Lend.is in cc))
+
+pub returns-clause-gives : goal.returns-clause-gives
+returns-clause-gives c = λ nested settled. absurd (none c.args.pool.now c.sched_reenter.new.current c.sched_reenter.result settled.1 (λ full. let yes = c.is_full.ensures.1 full in let no = c.if-is_full.false in cc) c.sched_reenter.ensures.does.handed
+    (λ job e. let clash = sym e ∙ c.in-Nothing.is in cc))

@@ -2,7 +2,7 @@ use Rattle.std.proofs.Common.{refl, sym, subst}
 use Rattle.std.proofs.lemmas.Result.{IfOk-weaker}
 use Rattle.step_eval.specs.Nests.{nested_of}
 use Rattle.forkjoin_sched.specs.Pools.{PoolParts, roomy_pool}
-use Rattle.forkjoin_sched.specs.declared.work.PoolWork.TheVariants.{Begin}
+use Rattle.step_eval.specs.declared.work.Work.TheVariants.{Begin}
 use Rattle.forkjoin_sched.proofs.PhaseStarts.{jobs_start_alike}
 use Rattle.lone_hart.specs.Accounts.{Stands}
 use Rattle.lone_hart.proofs.Accounts.{none_out}

@@ -1,6 +1,6 @@
 use Rattle.std.proofs.Common.{sym, subst}
 use Rattle.join_book.specs.Books.{Open, IsMarked, IsPlaceOf}
-use Rattle.loop_team.specs.declared.work.TeamWork.TheVariants.{Begin}
+use Rattle.step_eval.specs.declared.work.Work.TheVariants.{Begin}
 use Rattle.lone_hart.proofs.Accounts.{out_place}
 use Rattle.lone_hart.proofs.TeamAccounts.{arrived}
 use Rattle.lone_hart.proofs.ServedTeams.{team_arrives}

@@ -1,64 +1,43 @@
-use Rattle.std.proofs.Common.{◌≡◌, ◌⊎◌, false, sym, ap, ◌∙◌, subst, inl, inr}
-use Rattle.std.specs.Prelude.{IsTrue}
+use Rattle.std.proofs.Common.{◌≢◌, ◌⊎◌, sym, ap, ◌∙◌, subst, inl, inr}
+use Rattle.array_jobs.specs.Jobs.{JobParts}
+use Rattle.sched_api.specs.declared.scheduler.Next.{Next}
 use Rattle.sched_api.specs.declared.scheduler.Next.TheVariants.{Run}
-use Rattle.join_book.specs.Books.{BookParts}
 use Rattle.sched_api.specs.Agenda.{TakesNext}
-use Rattle.loop_team.specs.declared.work.TeamWork.TheVariants.{Begin}
 use Rattle.loop_team.specs.Teams.{TeamParts, IsOver}
-use Rattle.lone_hart.specs.Accounts.{AllButOneCameBack}
+use Rattle.step_eval.specs.declared.work.Work.{Work}
+use Rattle.step_eval.specs.declared.work.Work.TheVariants.{Begin}
 use Rattle.lone_hart.specs.Sites.{IsRunning}
-use Rattle.lone_hart.proofs.Accounts.{hand_out, full, none_to_go_on}
-use Rattle.lone_hart.proofs.ServedTeams.{one_to_one, team_lends}
+use Rattle.lone_hart.specs.Served.{GivesLone}
+use Rattle.lone_hart.specs.declared.site.LoneSite.TheVariants.{Team}
+use Rattle.lone_hart.proofs.Accounts.{always_begins}
+use Rattle.lone_hart.proofs.ServedTeams.{team_rests, team_gives}
 use Rattle.lone_hart.proofs.teams.next_of_team.Goals as goal
 
--- A team that isn't done is running.
-running : (team : TeamParts) (over : _) → over ≡ false → (IsOver team → IsTrue over) → IsOver team ⊎ IsRunning team → IsRunning team
-running team over not known (inl is) = absurd (let t = known is in cc)
-running team over not known (inr is) = is
+-- A team that isn't done hands out a job.
+none : (before after : TeamParts) (next : Next Work) → IsOver before ⊎ IsRunning before → ¬ IsOver before → TakesNext before.agenda next after.agenda → ((job : JobParts) → next ≢ Run (Begin job)) → ⊥
+none before after next (inl over) never taken other = never over
+none before after next (inr runs) never taken other = always_begins Begin before.barrier before.agenda after.agenda next runs.account runs.waits taken other
 
-pub unreachable-requires : goal.unreachable-requires
-unreachable-requires c =
-    let before = c.args.team.now in
-    let runs = running before c.is_over.result c.if-is_over.false c.is_over.ensures.1 c.requires in
-    none_to_go_on Begin before.barrier before.agenda c.sched_reenter.new.current.agenda _ (λ job e. cc) runs.account
-    (subst (λ next. TakesNext before.agenda next c.sched_reenter.new.current.agenda) (c.in-Run-Ready.is ∙ ap Run c.in-Run-Ready.field-0-is) c.sched_reenter.ensures.does.handed)
+pub returns-then-is_over-clause-gives : goal.returns-then-is_over-clause-gives
+returns-then-is_over-clause-gives c = team_rests c.args.team.now (c.is_over.ensures.0 c.if-is_over.true)
 
-pub unreachable-requires-in-Lend : goal.unreachable-requires-in-Lend
-unreachable-requires-in-Lend c =
-    let before = c.args.team.now in
-    let runs = running before c.is_over.result c.if-is_over.false c.is_over.ensures.1 c.requires in
-    let taken = subst (λ next. TakesNext before.agenda next c.sched_reenter.new.current.agenda) c.in-Lend.is c.sched_reenter.ensures.does.handed in
-    runs.waits (full Begin before.barrier before.agenda runs.account taken.all_begun)
-
-pub unreachable-requires-in-Nothing : goal.unreachable-requires-in-Nothing
-unreachable-requires-in-Nothing c =
-    let before = c.args.team.now in
-    let runs = running before c.is_over.result c.if-is_over.false c.is_over.ensures.1 c.requires in
-    let taken = subst (λ next. TakesNext before.agenda next c.sched_reenter.new.current.agenda) c.in-Nothing.is c.sched_reenter.ensures.does.handed in
-    runs.waits (full Begin before.barrier before.agenda runs.account taken.0.all_begun)
-
-pub returns-clause-account : goal.returns-clause-account
-returns-clause-account c =
-    let before = c.args.team.now in
-    let after = c.sched_reenter.new.current in
-    let does = c.sched_reenter.ensures.does in
-    let runs = running before c.is_over.result c.if-is_over.false c.is_over.ensures.1 c.requires in
-    let taken = subst (λ next. TakesNext before.agenda next after.agenda) (c.in-Run-Begin.is ∙ ap Run c.in-Run-Begin.field-0-is) does.handed in
-    let same = ap (λ (t : TeamParts). t.barrier) does.rest in
-    subst (λ (book : BookParts). AllButOneCameBack Begin book after.agenda c.in-Run-Begin.job) (sym same)
-    (hand_out Begin one_to_one before.barrier before.agenda after.agenda c.in-Run-Begin.job runs.account taken)
-
-pub returns-clause-served : goal.returns-clause-served
-returns-clause-served c = λ p around start es serves.
+pub returns-in-Run-Begin-clause-gives : goal.returns-in-Run-Begin-clause-gives
+returns-in-Run-Begin-clause-gives c =
     let before = c.args.team.now in
     let after = c.sched_reenter.new.current in
     let does = c.sched_reenter.ensures.does in
     let taken = subst (λ next. TakesNext before.agenda next after.agenda) (c.in-Run-Begin.is ∙ ap Run c.in-Run-Begin.field-0-is) does.handed in
-    let never : IsOver before → ⊥ = λ over. let yes = c.is_over.ensures.1 over in let none = c.if-is_over.false in cc in
-    elim serves [
-      | inl failed ↦ absurd (never (inr failed))
-      | inr well ↦ elim well [
-        | inl served ↦ absurd (never (inl served.last))
-        | inr phase ↦ team_lends p around start es before after c.in-Run-Begin.job phase taken does.rest
-      ]
-    ]
+    subst (λ t. GivesLone (Team before) (Run c.in-Run-Begin.job) (Team t)) (sym does.rest)
+    (team_gives before after.agenda c.in-Run-Begin.job (λ over. let yes = c.is_over.ensures.1 over in let no = c.if-is_over.false in cc) taken)
+
+pub returns-in-Run-Ready-clause-gives : goal.returns-in-Run-Ready-clause-gives
+returns-in-Run-Ready-clause-gives c = λ settled. absurd (none c.args.team.now c.sched_reenter.new.current c.sched_reenter.result settled (λ over. let yes = c.is_over.ensures.1 over in let no = c.if-is_over.false in cc) c.sched_reenter.ensures.does.handed
+    (λ job e. let clash = sym e ∙ c.in-Run-Ready.is ∙ ap Run c.in-Run-Ready.field-0-is in cc))
+
+pub returns-in-Lend-clause-gives : goal.returns-in-Lend-clause-gives
+returns-in-Lend-clause-gives c = λ settled. absurd (none c.args.team.now c.sched_reenter.new.current c.sched_reenter.result settled (λ over. let yes = c.is_over.ensures.1 over in let no = c.if-is_over.false in cc) c.sched_reenter.ensures.does.handed
+    (λ job e. let clash = sym e ∙ c.in-Lend.is in cc))
+
+pub returns-clause-gives : goal.returns-clause-gives
+returns-clause-gives c = λ settled. absurd (none c.args.team.now c.sched_reenter.new.current c.sched_reenter.result settled (λ over. let yes = c.is_over.ensures.1 over in let no = c.if-is_over.false in cc) c.sched_reenter.ensures.does.handed
+    (λ job e. let clash = sym e ∙ c.in-Nothing.is in cc))

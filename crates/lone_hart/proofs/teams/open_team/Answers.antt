@@ -2,7 +2,7 @@ use Rattle.std.proofs.Common.{◌≡◌, ap, sym, subst}
 use Rattle.join_book.specs.Books.{BookParts}
 use Rattle.step_eval.specs.Nests.{NestedParts, nested_of, IsFitNest}
 use Rattle.loop_team.specs.Teams.{TeamParts, AreJobsIn}
-use Rattle.loop_team.specs.declared.work.TeamWork.TheVariants.{Begin}
+use Rattle.step_eval.specs.declared.work.Work.TheVariants.{Begin}
 use Rattle.lone_hart.specs.Accounts.{Stands}
 use Rattle.lone_hart.proofs.Accounts.{none_out}
 use Rattle.lone_hart.proofs.TeamAccounts.{begins, are_group}
