@@ -1,11 +1,12 @@
 -- Each input has one status.
-use Rattle.std.proofs.Common.{◌≡◌, ◌⊎◌, ◌∙◌, ◌≤◌, ◌<◌, ℕ, Bool, true, false, cond, List, [], ◌∷◌, ◌++◌, codes, length, length-append, Option, Some, None, Result, Ok, Err, IfErr, sym, ap, subst, arith, refl, inl, inr}
+use Rattle.std.proofs.Common.{◌≡◌, ◌⊎◌, ◌∙◌, ◌≤◌, ◌<◌, ℕ, Bool, true, false, cond, List, [], ◌∷◌, ◌++◌, codes, length, length-append, Option, Some, None, Ok, Err, sym, ap, subst, arith, refl, inl, inr}
 use Rattle.std.specs.List.{join_with_byte}
 use Rattle.std.specs.Option.{option_map}
 use Rattle.std.proofs.lemmas.Option.{same_Some}
 use Rattle.std.proofs.lemmas.List.Splits.{join_with_byte-slice_split}
 use Rattle.outside_io.specs.Outside.{Rose}
 use Rattle.array_tree.specs.Trees.{ProgramTree}
+use Rattle.array_lang.specs.Spelled.{Spells}
 use Rattle.array_lang.proofs.OneProgram.{one_text}
 use Rattle.disjoint_check.specs.Meaning.{IsAcceptedFor}
 use Rattle.journal_text.specs.Reading.{lines_of, is_word}
@@ -15,14 +16,14 @@ use Rattle.command_words.specs.declared.command.Command.{Command}
 use Rattle.command_words.specs.declared.command.Command.TheVariants.{Run, Tally, Pipe, Solo, Audit, Make}
 use Rattle.lithe_call.specs.Inputs.{limit_of, AreInput, ReadsAll, GivesTooMuch, FailsToRead}
 use Rattle.command_words.specs.Form.{form_of}
-use Rattle.command_words.specs.Parts.{size_in}
 use Rattle.lithe_call.specs.Programs.{SpellAccepted, made_text}
-use Rattle.lithe_call.specs.Tallies.{IsTallied, SpellTallied}
-use Rattle.lithe_call.specs.Pipelines.{IsPiped, SpellPiped}
+use Rattle.lithe_call.specs.Tallies.{IsTallied}
+use Rattle.lithe_call.specs.Pipelines.{IsPiped}
 use Rattle.lithe_call.specs.Auditing.{HasParts, AreFound, found_in, status_by}
 use Rattle.lithe_call.specs.Output.{IsOutputOf, EndsMade, EndsWith}
-use Rattle.lithe_call.specs.Faults.{SpellNothing, SpellRefused, SpellUntallied, SpellUnpiped, AreNoOutput, IsNoText, IsRefused, IsLong, IsFault, IsNoRun, IsNoOutput, HaveNoVerdict}
+use Rattle.lithe_call.specs.Faults.{SpellNothing, SpellUnfit, SpellRefused, IsUnaccepted, IsUntallied, IsUnpiped, AreNoOutput, IsNoText, IsRefused, IsLong, IsFault, IsNoOutput, HaveNoVerdict}
 use Rattle.lithe_call.specs.FaultOf.{status_of}
+use Rattle.lithe_call.specs.Lines.{ReportsSyntax, ReportsRefusal}
 use Rattle.lithe_call.specs.Served.{IsOutputFor, IsTooLong, IsPrintedOf, IsTextOf}
 use Rattle.lithe_call.specs.Printed.{IsLineOf}
 use Rattle.lithe_call.specs.declared.fault.Fault.{Fault}
@@ -30,7 +31,7 @@ use Rattle.lithe_call.specs.declared.fault.Fault.TheVariants as fault
 use Rattle.lithe_call.specs.declared.status.Status.{Status}
 use Rattle.lithe_call.specs.declared.status.Status.TheVariants as status
 use Rattle.program_maker.proofs.Writing.{made_spelled}
-use Rattle.lithe_call.proofs.Causes.{given_bytes, more_of_left}
+use Rattle.lithe_call.proofs.Causes.{given_bytes, more_of_left, syntax_for, syntax_no_output, refusal_no_output, refused_line}
 
 -- ---- the second part is at most as long as the input
 part_cases : (b : Bool) (line rest : List ℕ) (found : Option (List ℕ × List ℕ)) (first second : List ℕ) → ((f s : List ℕ) → found ≡ Some (f, s) → length s ≤ length rest)
@@ -60,14 +61,13 @@ same_parts bytes first second f s one other =
 nothing_spelled : (bytes line : List ℕ) (harts : ℕ) (program : ProgramTree) → SpellNothing bytes line → SpellAccepted harts bytes program → ⊥
 nothing_spelled bytes line harts program fails is = fails.nothing program is.spelled
 
+unfit_fit : (IsFit : ProgramTree → Type 0) (IsWhy : ProgramTree → List ℕ → Type 0) (bytes line : List ℕ) (program : ProgramTree) → SpellUnfit IsFit IsWhy bytes line
+    → Spells bytes program → IsFit program → ⊥
+unfit_fit IsFit IsWhy bytes line program fails spelled fit = fails.refused (subst IsFit (one_text bytes program fails.program spelled fails.spelled) fit)
+
 refused_accepted : (harts : ℕ) (bytes line : List ℕ) (program : ProgramTree) → SpellRefused harts bytes line → SpellAccepted harts bytes program → ⊥
-refused_accepted harts bytes line program fails is = fails.refused (subst (λ (p : ProgramTree). IsAcceptedFor p harts) (one_text bytes program fails.program is.spelled fails.spelled) is.accepted)
-
-untallied_tallied : (harts : ℕ) (bytes line : List ℕ) (program : ProgramTree) → SpellUntallied harts bytes line → SpellTallied harts bytes program → ⊥
-untallied_tallied harts bytes line program fails is = fails.refused (subst (IsTallied harts) (one_text bytes program fails.program is.spelled fails.spelled) is.tallied)
-
-unpiped_piped : (harts : ℕ) (bytes line : List ℕ) (program : ProgramTree) → SpellUnpiped harts bytes line → SpellPiped harts bytes program → ⊥
-unpiped_piped harts bytes line program fails is = fails.refused (subst (IsPiped harts) (one_text bytes program fails.program is.spelled fails.spelled) is.piped)
+refused_accepted harts bytes line program fails is =
+    unfit_fit (λ program. IsAcceptedFor program harts) (IsUnaccepted harts) bytes line program fails is.spelled is.accepted
 
 pub parts_meet : (P Q : List ℕ → List ℕ → Type 0) (bytes : List ℕ) → ((first second : List ℕ) → P first second → Q first second → ⊥) → HasParts P bytes → HasParts Q bytes → ⊥
 parts_meet P Q bytes never p q =
@@ -106,8 +106,8 @@ refused_made harts text line status.NoMemory fails ends = absurd ends
 -- A refused input ends only with the status `Refused`.
 pub refused_ends : (command : Command) (bytes line : List ℕ) (ended : Status) → IsRefused command bytes line → EndsWith command bytes ended → ended ≡ status.Refused
 refused_ends (Run harts) bytes line ended fails ends = absurd (refused_accepted harts bytes line ends.1.0 fails ends.1.1)
-refused_ends (Tally harts) bytes line ended fails ends = absurd (untallied_tallied harts bytes line ends.1.0 fails ends.1.1)
-refused_ends (Pipe harts) bytes line ended fails ends = absurd (unpiped_piped harts bytes line ends.1.0 fails ends.1.1)
+refused_ends (Tally harts) bytes line ended fails ends = absurd (unfit_fit (IsTallied harts) (IsUntallied harts) bytes line ends.1.0 fails ends.1.1.spelled ends.1.1.tallied)
+refused_ends (Pipe harts) bytes line ended fails ends = absurd (unfit_fit (IsPiped harts) (IsUnpiped harts) bytes line ends.1.0 fails ends.1.1.spelled ends.1.1.piped)
 refused_ends Solo bytes line ended fails ends = absurd (refused_accepted 1 bytes line ends.1.0 fails ends.1.1)
 refused_ends (Audit harts) bytes line ended fails ends =
     absurd (parts_meet (λ first second. SpellRefused harts first line) (AreFound harts ends.1.0) bytes (λ first second fails is. refused_accepted harts first line is.program fails is.input) fails ends.1.1)
@@ -241,13 +241,25 @@ read_fault_printed words (fault.Syntax line) left left' faults faults' h e = cc 
 read_fault_printed words (fault.Refused line) left left' faults faults' h e = cc e
 read_fault_printed words fault.Memory left left' faults faults' h e = cc e
 
-pub no_verdict_of_no_run : (harts : ℕ) (first second : List ℕ) (why : Fault) → IsNoRun (SpellRefused harts) first why → HaveNoVerdict harts first second why
-no_verdict_of_no_run harts first second fault.Usage h = h
-no_verdict_of_no_run harts first second fault.TooLong h = h
-no_verdict_of_no_run harts first second fault.ReadFault h = h
-no_verdict_of_no_run harts first second (fault.Syntax line) h = inl h
-no_verdict_of_no_run harts first second (fault.Refused line) h = h
-no_verdict_of_no_run harts first second fault.Memory h = tt
+pub syntax_no_verdict : (harts : ℕ) (first second : List ℕ) (why : Fault) → ReportsSyntax (SpellNothing first) why → HaveNoVerdict harts first second why
+syntax_no_verdict harts first second fault.Usage reports = reports
+syntax_no_verdict harts first second fault.TooLong reports = reports
+syntax_no_verdict harts first second fault.ReadFault reports = reports
+syntax_no_verdict harts first second (fault.Syntax line) reports = inl reports
+syntax_no_verdict harts first second (fault.Refused line) reports = absurd reports
+syntax_no_verdict harts first second fault.Memory reports = tt
+
+refusal_no_verdict : (harts : ℕ) (first second : List ℕ) (why : Fault) → ReportsRefusal (SpellRefused harts first) why → HaveNoVerdict harts first second why
+refusal_no_verdict harts first second fault.Usage reports = reports
+refusal_no_verdict harts first second fault.TooLong reports = reports
+refusal_no_verdict harts first second fault.ReadFault reports = reports
+refusal_no_verdict harts first second (fault.Syntax line) reports = absurd reports
+refusal_no_verdict harts first second (fault.Refused line) reports = reports
+refusal_no_verdict harts first second fault.Memory reports = tt
+
+pub refused_no_verdict : (harts : ℕ) (first second : List ℕ) (program : ProgramTree) (why : Fault) → length first ≤ 65536 → Spells first program → ReportsRefusal (IsUnaccepted harts program) why
+    → HaveNoVerdict harts first second why
+refused_no_verdict harts first second program why short spelled reports = refusal_no_verdict harts first second why (refused_line harts first program why short spelled reports)
 
 -- ---- the line of a status, if the source's bytes are known
 reported_of : (IsSo : Command → List ℕ → List ℕ → Type 0) → ((seed size harts : ℕ) (a b line : List ℕ) → IsSo (Make seed size harts) a line → IsSo (Make seed size harts) b line)
@@ -278,19 +290,15 @@ line_printed words status.WriteFault left left' line is command form bytes e = i
 line_printed words status.NoMemory left left' line is command form bytes e = is
 
 -- ---- the text of a made program spells it
-pub no_output_of_made : (seed size harts : ℕ) (bytes : List ℕ) (why : Fault) → size ≤ 40 → IsNoRun (SpellRefused harts) (made_text seed size) why → IsNoOutput (Make seed size harts) bytes why
-no_output_of_made seed size harts bytes fault.Usage few h = h
-no_output_of_made seed size harts bytes fault.TooLong few h = h
-no_output_of_made seed size harts bytes fault.ReadFault few h = h
-no_output_of_made seed size harts bytes (fault.Syntax line) few h = let spelled = made_spelled seed size few in h.nothing spelled.0 spelled.1
-no_output_of_made seed size harts bytes (fault.Refused line) few h = h
-no_output_of_made seed size harts bytes fault.Memory few h = tt
+pub made_no_syntax : (seed size harts : ℕ) (bytes text : List ℕ) (why : Fault) → size ≤ 40 → text ≡ made_text seed size → ReportsSyntax (SpellNothing text) why
+    → IsNoOutput (Make seed size harts) bytes why
+made_no_syntax seed size harts bytes text why few same reports =
+    syntax_no_output (Make seed size harts) bytes why (syntax_for (SpellNothing text) (λ line. ⊥) why (λ line is.
+    let spelled = made_spelled seed size few in
+    is.nothing spelled.0 (subst (λ (t : List ℕ). Spells t spelled.0) (sym same) spelled.1)) reports)
 
--- The same for a function's result, for the text it was given.
-pub made_faults : {X : Type 0} (r : Result X Fault) (command : Command) (seed size harts : ℕ) (bytes text : List ℕ) → command ≡ Make seed size harts → size_in command ≤ 40
-    → text ≡ made_text seed size → IfErr r (IsNoRun (SpellRefused harts) text) → IfErr r (IsNoOutput command bytes)
-made_faults (Ok x) command seed size harts bytes text is few same h = tt
-made_faults (Err why) command seed size harts bytes text is few same h =
-    subst (λ (c : Command). IsNoOutput c bytes why) (sym is)
-    (no_output_of_made seed size harts bytes why (subst (λ (c : Command). size_in c ≤ 40) is few)
-    (subst (λ (t : List ℕ). IsNoRun (SpellRefused harts) t why) same h))
+pub made_refused : (seed size harts : ℕ) (bytes text : List ℕ) (program : ProgramTree) (why : Fault) → text ≡ made_text seed size → length text ≤ 65536 → Spells text program
+    → ReportsRefusal (IsUnaccepted harts program) why → IsNoOutput (Make seed size harts) bytes why
+made_refused seed size harts bytes text program why same short spelled reports =
+    refusal_no_output (Make seed size harts) bytes why
+    (subst (λ (t : List ℕ). ReportsRefusal (SpellRefused harts t) why) same (refused_line harts text program why short spelled reports))

@@ -1,21 +1,20 @@
 -- Why a program isn't piped: members overtake.
-use Rattle.std.proofs.Common.{◌≡◌, ◌⊎◌, ◌≤◌, ◌∙◌, ℕ, List, length, Some, None, sym, refl, inl, inr}
+use Rattle.std.proofs.Common.{◌≡◌, ◌≢◌, ◌≤◌, ◌∙◌, ℕ, List, length, Some, None, sym, refl, inl, inr}
 use Rattle.array_tree.specs.Trees.{ProgramTree}
 use Rattle.array_lang.specs.Spelled.{Spells}
-use Rattle.disjoint_check.specs.declared.fault.CheckFault.{CheckFault}
-use Rattle.disjoint_check.specs.declared.fault.CheckFault.TheVariants as check
-use Rattle.disjoint_check.specs.FaultOf.{check_fault_of}
 use Rattle.disjoint_check.specs.Meaning.{IsAcceptedFor}
 use Rattle.disjoint_check.proofs.Accepting.{none_of_accepted}
 use Rattle.phase_order.specs.Crossings.{HasNoCrossings}
 use Rattle.pipe_walk.specs.FirstCrossing.{IsFaultOf}
 use Rattle.pipe_walk.specs.declared.fault.PipeFault.{PipeFault}
 use Rattle.pipe_walk.specs.declared.fault.PipeFault.TheVariants as pipe
-use Rattle.lithe_call.specs.Faults.{IsUnpiped, SpellUnpiped, IsNoRun, PrintsUnpiped}
-use Rattle.lithe_call.specs.Lines.{PrintsRefusal, PrintsCrossing}
+use Rattle.lithe_call.specs.Faults.{IsUnaccepted, IsUnpiped, SpellUnpiped, IsNoOutput, PrintsUnpiped}
+use Rattle.lithe_call.specs.Lines.{PrintsCrossing, ReportsRefusal}
 use Rattle.lithe_call.specs.Pipelines.{IsPiped}
 use Rattle.lithe_call.specs.declared.fault.Fault.{Fault}
-use Rattle.lithe_call.specs.declared.fault.Fault.TheVariants as fault
+use Rattle.command_words.specs.declared.command.Command.TheVariants.{Pipe}
+use Rattle.error_text.specs.CrossingText.{crossing_text}
+use Rattle.lithe_call.proofs.Causes.{refusal_for, refusal_no_output}
 
 -- A program with a crossing isn't free of crossings.
 crossed_uncrossed : (program : ProgramTree) (cause : PipeFault) → (cause ≡ pipe.Memory → ⊥) → IsFaultOf program cause → HasNoCrossings program → ⊥
@@ -29,40 +28,27 @@ unpiped_refused harts program line (inl check) is =
 unpiped_refused harts program line (inr crossed) is = crossed_uncrossed program crossed.fault crossed.real crossed.is is.uncrossed
 
 pub unpiped_line : (harts : ℕ) (bytes : List ℕ) (program : ProgramTree) (why : Fault) → length bytes ≤ 65536 → Spells bytes program
-    → PrintsUnpiped harts program why → IsNoRun (SpellUnpiped harts) bytes why
-unpiped_line harts bytes program fault.Usage short spelled prints = absurd prints
-unpiped_line harts bytes program fault.TooLong short spelled prints = absurd prints
-unpiped_line harts bytes program fault.ReadFault short spelled prints = absurd prints
-unpiped_line harts bytes program (fault.Syntax line) short spelled prints = absurd prints
-unpiped_line harts bytes program (fault.Refused line) short spelled prints = record {
-  short = short;
-  program = program;
-  spelled = spelled;
-  refused = unpiped_refused harts program line.items prints;
-  first = prints;
-}
-unpiped_line harts bytes program fault.Memory short spelled prints = tt
+    → PrintsUnpiped harts program why → IsNoOutput (Pipe harts) bytes why
+unpiped_line harts bytes program why short spelled prints =
+    refusal_no_output (Pipe harts) bytes why (refusal_for (IsUnpiped harts program) (SpellUnpiped harts bytes) why (λ line is. record {
+      short = short;
+      program = program;
+      spelled = spelled;
+      refused = unpiped_refused harts program line is;
+      first = is;
+    }) prints)
 
 -- The check refuses the program.
-pub check_printed : (harts : ℕ) (program : ProgramTree) (cause : CheckFault) (why : Fault) → PrintsRefusal program cause why
-    → (cause ≡ check.Memory) ⊎ (check_fault_of program harts ≡ Some cause) → PrintsUnpiped harts program why
-check_printed harts program cause fault.Usage prints first = absurd prints
-check_printed harts program cause fault.TooLong prints first = absurd prints
-check_printed harts program cause fault.ReadFault prints first = absurd prints
-check_printed harts program cause (fault.Syntax line) prints first = absurd prints
-check_printed harts program cause (fault.Refused line) prints first = elim first [
-  | inl memory ↦ absurd (prints.0 memory)
-  | inr is ↦ inl (record { fault = cause; is = is; real = prints.0; printed = prints.1 })
-]
-check_printed harts program cause fault.Memory prints first = tt
+pub check_refused : (harts : ℕ) (program : ProgramTree) (why : Fault) → ReportsRefusal (IsUnaccepted harts program) why → PrintsUnpiped harts program why
+check_refused harts program why reports = refusal_for (IsUnaccepted harts program) (IsUnpiped harts program) why (λ line is. inl is) reports
+
+pub check_no_output : (harts : ℕ) (bytes : List ℕ) (program : ProgramTree) (why : Fault) → length bytes ≤ 65536 → Spells bytes program
+    → ReportsRefusal (IsUnaccepted harts program) why → IsNoOutput (Pipe harts) bytes why
+check_no_output harts bytes program why short spelled reports = unpiped_line harts bytes program why short spelled (check_refused harts program why reports)
 
 -- Two pieces of the program cross.
 pub crossing_printed : (harts : ℕ) (program : ProgramTree) (cause : PipeFault) (why : Fault) → IsAcceptedFor program harts → PrintsCrossing program cause why
     → IsFaultOf program cause → PrintsUnpiped harts program why
-crossing_printed harts program cause fault.Usage accepted prints is = absurd prints
-crossing_printed harts program cause fault.TooLong accepted prints is = absurd prints
-crossing_printed harts program cause fault.ReadFault accepted prints is = absurd prints
-crossing_printed harts program cause (fault.Syntax line) accepted prints is = absurd prints
-crossing_printed harts program cause (fault.Refused line) accepted prints is =
-    inr (record { accepted = accepted; fault = cause; is = is; real = prints.0; printed = prints.1 })
-crossing_printed harts program cause fault.Memory accepted prints is = tt
+crossing_printed harts program cause why accepted prints is =
+    refusal_for (λ line. (cause ≢ pipe.Memory) × (line ≡ crossing_text program cause)) (IsUnpiped harts program) why
+    (λ line said. inr (record { accepted = accepted; fault = cause; is = is; real = said.0; printed = said.1 })) prints

@@ -1,5 +1,5 @@
 -- Why a program isn't tallied, and the cells of the given program after a run of the spread one.
-use Rattle.std.proofs.Common.{◌≡◌, ◌⊎◌, ◌≤◌, ◌∙◌, ℕ, List, length, take, Option, Some, None, refl, sym, ap, subst, inl, inr, arith}
+use Rattle.std.proofs.Common.{◌≡◌, ◌≢◌, ◌⊎◌, ◌≤◌, ◌∙◌, ℕ, List, length, take, Option, Some, None, refl, sym, ap, subst, inl, inr, arith}
 use Rattle.std.specs.Option.{option_map}
 use Rattle.std.proofs.lemmas.List.{length-take}
 use Rattle.std.proofs.lemmas.Option.{same_Some}
@@ -9,7 +9,7 @@ use Rattle.array_meaning.specs.Stores.{Store, arrays_of, cells_of}
 use Rattle.array_meaning.specs.Work.{final_store}
 use Rattle.disjoint_check.specs.declared.fault.CheckFault.{CheckFault}
 use Rattle.disjoint_check.specs.declared.fault.CheckFault.TheVariants as check
-use Rattle.disjoint_check.specs.FaultOf.{meaning_fault_of, check_fault_of}
+use Rattle.disjoint_check.specs.FaultOf.{meaning_fault_of}
 use Rattle.disjoint_check.specs.Meaning.{HasMeaningFor}
 use Rattle.disjoint_check.proofs.Accepting.{none_of_meaning, none_of_accepted}
 use Rattle.spread_laws.specs.Faults.{SpreadFault, spread_fault_of}
@@ -19,11 +19,12 @@ use Rattle.tally_cells.specs.FaultOf.{reported_of}
 use Rattle.tally_cells.specs.declared.fault.TallyFault.{TallyFault}
 use Rattle.tally_cells.specs.declared.fault.TallyFault.TheVariants as tally
 use Rattle.error_text.specs.TallyText.{tally_text}
-use Rattle.lithe_call.specs.Faults.{IsPrintedFault, IsUntallied, SpellUntallied, IsNoRun, PrintsUntallied}
-use Rattle.lithe_call.specs.Lines.{PrintsRefusal, PrintsTally}
+use Rattle.lithe_call.specs.Faults.{IsPrintedFault, IsUnaccepted, IsUntallied, SpellUntallied, IsNoOutput, PrintsUntallied}
+use Rattle.lithe_call.specs.Lines.{PrintsRefusal, PrintsTally, ReportsRefusal}
 use Rattle.lithe_call.specs.Tallies.{IsTallied}
 use Rattle.lithe_call.specs.declared.fault.Fault.{Fault}
-use Rattle.lithe_call.specs.declared.fault.Fault.TheVariants as fault
+use Rattle.command_words.specs.declared.command.Command.TheVariants.{Tally}
+use Rattle.lithe_call.proofs.Causes.{refusal_for, refusal_no_output, refusal_printed}
 use Rattle.lithe_call.proofs.Runs.{final_cells}
 
 -- ---- a program with a meaning for some harts has a meaning
@@ -51,32 +52,22 @@ untallied_refused harts program line (inr (inr rows)) is =
     let bad : None ≡ Some rows.first.fault = sym none ∙ rows.first.is in cc bad
 
 pub untallied_line : (harts : ℕ) (bytes : List ℕ) (program : ProgramTree) (why : Fault) → length bytes ≤ 65536 → Spells bytes program
-    → PrintsUntallied harts program why → IsNoRun (SpellUntallied harts) bytes why
-untallied_line harts bytes program fault.Usage short spelled prints = absurd prints
-untallied_line harts bytes program fault.TooLong short spelled prints = absurd prints
-untallied_line harts bytes program fault.ReadFault short spelled prints = absurd prints
-untallied_line harts bytes program (fault.Syntax line) short spelled prints = absurd prints
-untallied_line harts bytes program (fault.Refused line) short spelled prints = record {
-  short = short;
-  program = program;
-  spelled = spelled;
-  refused = untallied_refused harts program line.items prints;
-  first = prints;
-}
-untallied_line harts bytes program fault.Memory short spelled prints = tt
+    → PrintsUntallied harts program why → IsNoOutput (Tally harts) bytes why
+untallied_line harts bytes program why short spelled prints =
+    refusal_no_output (Tally harts) bytes why (refusal_for (IsUntallied harts program) (SpellUntallied harts bytes) why (λ line is. record {
+      short = short;
+      program = program;
+      spelled = spelled;
+      refused = untallied_refused harts program line is;
+      first = is;
+    }) prints)
 
 -- The program's meaning is refused.
 pub meaning_printed : (harts : ℕ) (program : ProgramTree) (cause : CheckFault) (why : Fault) → PrintsRefusal program cause why
     → (cause ≡ check.Memory) ⊎ (meaning_fault_of program harts ≡ Some cause) → PrintsUntallied harts program why
-meaning_printed harts program cause fault.Usage prints first = absurd prints
-meaning_printed harts program cause fault.TooLong prints first = absurd prints
-meaning_printed harts program cause fault.ReadFault prints first = absurd prints
-meaning_printed harts program cause (fault.Syntax line) prints first = absurd prints
-meaning_printed harts program cause (fault.Refused line) prints first = elim first [
-  | inl memory ↦ absurd (prints.0 memory)
-  | inr is ↦ inl (record { fault = cause; is = is; real = prints.0; printed = prints.1 })
-]
-meaning_printed harts program cause fault.Memory prints first = tt
+meaning_printed harts program cause why prints first =
+    refusal_for (IsPrintedFault (meaning_fault_of program harts) program) (IsUntallied harts program) why (λ line is. inl is)
+    (refusal_printed (meaning_fault_of program harts) program cause why prints first)
 
 -- The program's adds are refused.
 given_fault : (found : Option SpreadFault) (cause : TallyFault) → option_map reported_of found ≡ Some cause → (f : SpreadFault) × (found ≡ Some f) × (reported_of f ≡ cause)
@@ -85,34 +76,27 @@ given_fault (Some f) cause e = (f, refl, same_Some (reported_of f) cause e)
 
 pub adds_printed : (harts : ℕ) (program : ProgramTree) (cause : TallyFault) (why : Fault) → HasMeaningFor program harts → PrintsTally cause why
     → (cause ≡ tally.Memory) ⊎ (option_map reported_of (spread_fault_of program) ≡ Some cause) → PrintsUntallied harts program why
-adds_printed harts program cause fault.Usage meaning prints first = absurd prints
-adds_printed harts program cause fault.TooLong meaning prints first = absurd prints
-adds_printed harts program cause fault.ReadFault meaning prints first = absurd prints
-adds_printed harts program cause (fault.Syntax line) meaning prints first = absurd prints
-adds_printed harts program cause (fault.Refused line) meaning prints first = elim first [
-  | inl memory ↦ absurd (prints.0 memory)
-  | inr is ↦ let given = given_fault (spread_fault_of program) cause is in
-      inr (inl (record { meaning = meaning; fault = given.0; first = given.1; printed = prints.1 ∙ ap tally_text (sym given.2) }))
-]
-adds_printed harts program cause fault.Memory meaning prints first = tt
+adds_printed harts program cause why meaning prints first =
+    refusal_for (λ line. (cause ≢ tally.Memory) × (line ≡ tally_text cause)) (IsUntallied harts program) why (λ line is. elim first [
+      | inl memory ↦ absurd (is.0 memory)
+      | inr same ↦ let given = given_fault (spread_fault_of program) cause same in
+          inr (inl (record { meaning = meaning; fault = given.0; first = given.1; printed = is.1 ∙ ap tally_text (sym given.2) }))
+    ]) prints
 
 -- The spread program is refused.
-pub rows_printed : (harts : ℕ) (program rows : ProgramTree) (cause : CheckFault) (why : Fault) → HasMeaningFor program harts → spread_fault_of program ≡ None
-    → rows ≡ spread_of program → PrintsRefusal rows cause why → (cause ≡ check.Memory) ⊎ (check_fault_of rows harts ≡ Some cause) → PrintsUntallied harts program why
-rows_printed harts program rows cause fault.Usage meaning shaped same prints first = absurd prints
-rows_printed harts program rows cause fault.TooLong meaning shaped same prints first = absurd prints
-rows_printed harts program rows cause fault.ReadFault meaning shaped same prints first = absurd prints
-rows_printed harts program rows cause (fault.Syntax line) meaning shaped same prints first = absurd prints
-rows_printed harts program rows cause (fault.Refused line) meaning shaped same prints first = elim first [
-  | inl memory ↦ absurd (prints.0 memory)
-  | inr is ↦ inr (inr (record {
-    meaning = meaning;
-    shaped = shaped;
-    first = subst (λ (p : ProgramTree). IsPrintedFault (check_fault_of p harts) p line.items) same
-        (record { fault = cause; is = is; real = prints.0; printed = prints.1 });
-  }))
-]
-rows_printed harts program rows cause fault.Memory meaning shaped same prints first = tt
+pub rows_refused : (harts : ℕ) (program rows : ProgramTree) (why : Fault) → HasMeaningFor program harts → spread_fault_of program ≡ None
+    → rows ≡ spread_of program → ReportsRefusal (IsUnaccepted harts rows) why → PrintsUntallied harts program why
+rows_refused harts program rows why meaning shaped same reports =
+    refusal_for (IsUnaccepted harts rows) (IsUntallied harts program) why (λ line is. inr (inr (record {
+      meaning = meaning;
+      shaped = shaped;
+      first = subst (λ (p : ProgramTree). IsUnaccepted harts p line) same is;
+    }))) reports
+
+pub rows_no_output : (harts : ℕ) (bytes : List ℕ) (program rows : ProgramTree) (why : Fault) → length bytes ≤ 65536 → Spells bytes program → HasMeaningFor program harts
+    → spread_fault_of program ≡ None → rows ≡ spread_of program → ReportsRefusal (IsUnaccepted harts rows) why → IsNoOutput (Tally harts) bytes why
+rows_no_output harts bytes program rows why short spelled meaning shaped same reports =
+    untallied_line harts bytes program why short spelled (rows_refused harts program rows why meaning shaped same reports)
 
 -- ---- the cells of the given program are the first cells of the spread one
 pub kept_cells : (program rows : ProgramTree) (store : Store) → IsTallyKept program rows → store ≡ final_store rows

@@ -20,6 +20,7 @@ use Rattle.spread_laws.specs.Faults.{SpreadFault, spread_fault_of}
 use Rattle.spread_laws.specs.Spread.{spread_of}
 use Rattle.tally_cells.specs.FaultOf.{reported_of}
 use Rattle.lithe_call.specs.Inputs.{ReadsAll, GivesTooMuch, FailsToRead}
+use Rattle.lithe_call.specs.Lines.{ReportsRefusal}
 use Rattle.lithe_call.specs.Programs.{made_text, SpellAccepted}
 use Rattle.lithe_call.specs.Tallies.{IsTallied}
 use Rattle.lithe_call.specs.Pipelines.{IsPiped}
@@ -50,14 +51,23 @@ pub record IsPrintedFault (found : Option CheckFault) (program : ProgramTree) (l
   pub real : fault ≢ check.Memory
   pub printed : line ≡ refusal_text program fault
 
--- Bytes within the limit spell a program that isn't accepted for so many harts, and the line names the first condition that it
--- fails.
-pub record SpellRefused (harts : ℕ) (bytes line : List ℕ) : Type 0 where
+-- Bytes within the limit spell a program that isn't fit, and the line reports why.
+pub record SpellUnfit (IsFit : ProgramTree → Type 0) (IsWhy : ProgramTree → List ℕ → Type 0)
+    (bytes line : List ℕ) : Type 0 where
   pub short : length bytes ≤ most_bytes
   pub program : ProgramTree
   pub spelled : Spells bytes program
-  pub refused : IsAcceptedFor program harts → ⊥
-  pub first : IsPrintedFault (check_fault_of program harts) program line
+  pub refused : IsFit program → ⊥
+  pub first : IsWhy program line
+
+-- The line names the first condition that the program fails for so many harts.
+abbrev pub IsUnaccepted : ℕ → ProgramTree → List ℕ → Type 0
+IsUnaccepted harts program line = IsPrintedFault (check_fault_of program harts) program line
+
+-- These bytes spell a program that isn't accepted for so many harts.
+abbrev pub SpellRefused : ℕ → List ℕ → List ℕ → Type 0
+SpellRefused harts bytes line =
+    SpellUnfit (λ program. IsAcceptedFor program harts) (IsUnaccepted harts) bytes line
 
 -- The program has a meaning, but its adds can't have rows of their own, and the line reports why.
 pub record IsUnspread (harts : ℕ) (program : ProgramTree) (line : List ℕ) : Type 0 where
@@ -80,13 +90,9 @@ IsUntallied harts program line =
     IsPrintedFault (meaning_fault_of program harts) program line
     ⊎ (IsUnspread harts program line ⊎ IsSpreadRefused harts program line)
 
--- Bytes within the limit spell a program that can't be tallied by so many harts, and the line reports why.
-pub record SpellUntallied (harts : ℕ) (bytes line : List ℕ) : Type 0 where
-  pub short : length bytes ≤ most_bytes
-  pub program : ProgramTree
-  pub spelled : Spells bytes program
-  pub refused : IsTallied harts program → ⊥
-  pub first : IsUntallied harts program line
+-- These bytes spell a program that can't be tallied by so many harts.
+abbrev pub SpellUntallied : ℕ → List ℕ → List ℕ → Type 0
+SpellUntallied harts bytes line = SpellUnfit (IsTallied harts) (IsUntallied harts) bytes line
 
 -- The program is accepted, but two pieces cross at one of its sites, and the line reports the first such site and its least
 -- cell.
@@ -99,16 +105,11 @@ pub record IsCrossed (harts : ℕ) (program : ProgramTree) (line : List ℕ) : T
 
 -- The first of the two conditions for which `pipe` refuses a program: the check, or the check for crossings.
 abbrev pub IsUnpiped : ℕ → ProgramTree → List ℕ → Type 0
-IsUnpiped harts program line =
-    IsPrintedFault (check_fault_of program harts) program line ⊎ IsCrossed harts program line
+IsUnpiped harts program line = IsUnaccepted harts program line ⊎ IsCrossed harts program line
 
--- Bytes within the limit spell a program that can't be piped by so many harts, and the line reports why.
-pub record SpellUnpiped (harts : ℕ) (bytes line : List ℕ) : Type 0 where
-  pub short : length bytes ≤ most_bytes
-  pub program : ProgramTree
-  pub spelled : Spells bytes program
-  pub refused : IsPiped harts program → ⊥
-  pub first : IsUnpiped harts program line
+-- These bytes spell a program that can't be piped by so many harts.
+abbrev pub SpellUnpiped : ℕ → List ℕ → List ℕ → Type 0
+SpellUnpiped harts bytes line = SpellUnfit (IsPiped harts) (IsUnpiped harts) bytes line
 
 -- The input has no line `%%`, and the line reports that.
 pub record HasNoMark (bytes line : List ℕ) : Type 0 where
@@ -178,24 +179,13 @@ IsFault words why left left' faults faults' =
     (command : Command) × (form_of words ≡ Some command)
     × IsCause command why left left' faults faults'
 
--- The program of these bytes has no output. `AreRefused` relates bytes to the line that reports a refusal.
-abbrev pub IsNoRun : (List ℕ → List ℕ → Type 0) → List ℕ → Fault → Type 0
-IsNoRun AreRefused bytes (fault.Syntax line) = SpellNothing bytes line.items
-IsNoRun AreRefused bytes (fault.Refused line) = AreRefused bytes line.items
-IsNoRun AreRefused bytes fault.Memory = Unit {0}
-IsNoRun AreRefused bytes why = ⊥
-
 -- The fault reports why the program can't be tallied, or an allocation failed.
 abbrev pub PrintsUntallied : ℕ → ProgramTree → Fault → Type 0
-PrintsUntallied harts program (fault.Refused line) = IsUntallied harts program line.items
-PrintsUntallied harts program fault.Memory = Unit {0}
-PrintsUntallied harts program why = ⊥
+PrintsUntallied harts program why = ReportsRefusal (IsUntallied harts program) why
 
 -- The fault reports why the program can't be piped, or an allocation failed.
 abbrev pub PrintsUnpiped : ℕ → ProgramTree → Fault → Type 0
-PrintsUnpiped harts program (fault.Refused line) = IsUnpiped harts program line.items
-PrintsUnpiped harts program fault.Memory = Unit {0}
-PrintsUnpiped harts program why = ⊥
+PrintsUnpiped harts program why = ReportsRefusal (IsUnpiped harts program) why
 
 -- The command has no output for these bytes, for this cause.
 abbrev pub IsNoOutput : Command → List ℕ → Fault → Type 0

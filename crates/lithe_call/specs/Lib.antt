@@ -1,5 +1,4 @@
 pub mod Printing
-pub mod Command
 pub mod Programs
 pub mod Tallies
 pub mod Pipelines

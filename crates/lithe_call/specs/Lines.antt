@@ -1,5 +1,5 @@
 -- The faults that have a line, by what the line reports.
-use Rattle.std.specs.Prelude.{◌≡◌, ◌≢◌}
+use Rattle.std.specs.Prelude.{◌≡◌, ◌≢◌, ℕ, List}
 use Rattle.array_tree.specs.Trees.{ProgramTree}
 use Rattle.array_lang.specs.declared.fault.SyntaxFault.{SyntaxFault}
 use Rattle.array_lang.specs.declared.fault.SyntaxFault.TheVariants as syntax
@@ -19,34 +19,36 @@ use Rattle.tally_cells.specs.declared.fault.TallyFault.TheVariants as tally
 use Rattle.lithe_call.specs.declared.fault.Fault.{Fault}
 use Rattle.lithe_call.specs.declared.fault.Fault.TheVariants as fault
 
+-- The fault is Syntax with a line for which `IsSo` holds, or an allocation failed.
+abbrev pub ReportsSyntax : (List ℕ → Type 0) → Fault → Type 0
+ReportsSyntax IsSo (fault.Syntax line) = IsSo line.items
+ReportsSyntax IsSo fault.Memory = Unit {0}
+ReportsSyntax IsSo why = ⊥
+
+-- The fault is Refused with a line for which `IsSo` holds, or an allocation failed.
+abbrev pub ReportsRefusal : (List ℕ → Type 0) → Fault → Type 0
+ReportsRefusal IsSo (fault.Refused line) = IsSo line.items
+ReportsRefusal IsSo fault.Memory = Unit {0}
+ReportsRefusal IsSo why = ⊥
+
 -- The fault reports the text's first error, or an allocation failed.
 abbrev pub PrintsSyntax : SyntaxFault → Fault → Type 0
-PrintsSyntax cause (fault.Syntax line) = (cause ≢ syntax.Memory) × (line.items ≡ syntax_text cause)
-PrintsSyntax cause fault.Memory = Unit {0}
-PrintsSyntax cause why = ⊥
+PrintsSyntax cause why = ReportsSyntax (λ line. (cause ≢ syntax.Memory) × (line ≡ syntax_text cause)) why
 
 -- The fault reports why the program isn't accepted, or an allocation failed.
 abbrev pub PrintsRefusal : ProgramTree → CheckFault → Fault → Type 0
-PrintsRefusal program cause (fault.Refused line) =
-    (cause ≢ check.Memory) × (line.items ≡ refusal_text program cause)
-PrintsRefusal program cause fault.Memory = Unit {0}
-PrintsRefusal program cause why = ⊥
+PrintsRefusal program cause why =
+    ReportsRefusal (λ line. (cause ≢ check.Memory) × (line ≡ refusal_text program cause)) why
 
 -- The fault reports why the program can't be spread, or an allocation failed.
 abbrev pub PrintsTally : TallyFault → Fault → Type 0
-PrintsTally cause (fault.Refused line) = (cause ≢ tally.Memory) × (line.items ≡ tally_text cause)
-PrintsTally cause fault.Memory = Unit {0}
-PrintsTally cause why = ⊥
+PrintsTally cause why = ReportsRefusal (λ line. (cause ≢ tally.Memory) × (line ≡ tally_text cause)) why
 
 -- The fault reports the crossing of two pieces, or an allocation failed.
 abbrev pub PrintsCrossing : ProgramTree → PipeFault → Fault → Type 0
-PrintsCrossing program cause (fault.Refused line) =
-    (cause ≢ pipe.Memory) × (line.items ≡ crossing_text program cause)
-PrintsCrossing program cause fault.Memory = Unit {0}
-PrintsCrossing program cause why = ⊥
+PrintsCrossing program cause why =
+    ReportsRefusal (λ line. (cause ≢ pipe.Memory) × (line ≡ crossing_text program cause)) why
 
 -- The fault reports the first error of an output's text, or an allocation failed.
 abbrev pub PrintsText : TextFault → Fault → Type 0
-PrintsText cause (fault.Syntax line) = (cause ≢ text.Memory) × (line.items ≡ text_fault_text cause)
-PrintsText cause fault.Memory = Unit {0}
-PrintsText cause why = ⊥
+PrintsText cause why = ReportsSyntax (λ line. (cause ≢ text.Memory) × (line ≡ text_fault_text cause)) why

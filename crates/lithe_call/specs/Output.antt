@@ -21,7 +21,8 @@ use Rattle.lithe_call.specs.Programs.{SpellAccepted, table_plan, made_text}
 use Rattle.lithe_call.specs.Tallies.{SpellTallied}
 use Rattle.lithe_call.specs.Pipelines.{SpellPiped}
 use Rattle.lithe_call.specs.Inputs.{limit_of}
-use Rattle.lithe_call.specs.Auditing.{HasVerdict, status_by}
+use Rattle.lithe_call.specs.Auditing.{HasVerdict, status_by, status_of_ending}
+use Rattle.lithe_call.specs.declared.answer.Answer.{Answer}
 use Rattle.lithe_call.specs.declared.status.Status.{Status}
 use Rattle.lithe_call.specs.declared.status.Status.TheVariants.{Done, Refused}
 
@@ -87,6 +88,11 @@ IsOutputOf Solo bytes status text = (status ≡ Done) × IsRunOf Solo bytes text
 IsOutputOf (Audit harts) bytes status text = IsAuditOf harts bytes status text
 IsOutputOf (Make seed size harts) bytes status text =
     (status ≡ Done) × IsRunOf (Make seed size harts) (made_text seed size) text
+
+-- The answer is the output of the command for these bytes.
+abbrev pub IsAnswer : Command → List ℕ → Answer → Type 0
+IsAnswer command bytes answer =
+    IsOutputOf command bytes (status_of_ending answer.ending) answer.text.items
 
 -- The printed text of a generated program spells a program that is accepted for so many harts, or one that isn't.
 abbrev pub EndsMade : ℕ → List ℕ → Status → Type 0

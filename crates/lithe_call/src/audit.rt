@@ -4,16 +4,14 @@ ghost use Rattle.array_meaning.specs.Bounds.{most_bytes};
 ghost use Rattle.command_words.specs.declared.command.Command.TheVariants.{Audit};
 ghost use Rattle.run_audit.specs.Parts.{most_audited};
 ghost use Rattle.lithe_call.specs.Auditing.{AreFound, status_of_ending, status_by};
-ghost use Rattle.lithe_call.specs.Output.{IsAuditOf};
+ghost use Rattle.lithe_call.specs.Output.{IsAnswer};
 ghost use Rattle.lithe_call.specs.Faults.{IsNoOutput, HaveNoVerdict};
 ghost use Rattle.lithe_call.specs.Lines.{PrintsText};
 
 use crate::answer::{Answer, Ending};
 use crate::command::MOST_BYTES;
 use crate::fault::Fault;
-use crate::run::{refusal, syntax_fault};
-use array_lang::parse;
-use disjoint_check::check;
+use crate::program::{checked, parsed};
 use entered_sites::entered_by;
 use journal_text::TextFault;
 use run_audit::{Verdict, audit, parts_of, text_fault_line, verdict_line};
@@ -34,8 +32,7 @@ pub fn audited(alloc: Global, harts: u8, bytes: &[u8]) -> Result<Answer, Fault>
     requires short { length bytes.now ≤ most_audited }
     requires some_hart { 1 ≤ harts }
     requires few_harts { harts ≤ 16 }
-    ensures output { IfOk result
-        (λ answer. IsAuditOf harts bytes.now (status_of_ending answer.ending) answer.text.items) }
+    ensures output { IfOk result (IsAnswer (Audit harts) bytes.now) }
     ensures fault { IfErr result (IsNoOutput (Audit harts) bytes.now) }
 {
     let Some((first, second)) = parts_of(bytes) else {
@@ -61,6 +58,7 @@ fn ending(verdict: Verdict) -> Ending
 }
 
 // The verdict on the second part, by the program of the first.
+#[tactic(auto, using(crate::proofs::Endings::syntax_no_verdict, crate::proofs::Endings::refused_no_verdict))]
 fn verdict(alloc: Global, harts: u8, first: &[u8], second: &[u8]) -> Result<Verdict, Fault>
     requires short { length first.now ≤ most_bytes }
     requires short_output { length second.now ≤ most_audited }
@@ -69,14 +67,8 @@ fn verdict(alloc: Global, harts: u8, first: &[u8], second: &[u8]) -> Result<Verd
     ensures found { IfOk result (λ verdict. AreFound harts verdict first.now second.now) }
     ensures fault { IfErr result (HaveNoVerdict harts first.now second.now) }
 {
-    let program = match parse(alloc, first) {
-        Ok(program) => program,
-        Err(fault) => return Err(syntax_fault(alloc, fault)),
-    };
-    let accepted = match check(alloc, &program, harts) {
-        Ok(accepted) => accepted,
-        Err(fault) => return Err(refusal(alloc, &program, fault)),
-    };
+    let program = parsed(alloc, first)?;
+    let accepted = checked(alloc, &program, harts)?;
     let entered = entered_by(alloc, &accepted)?;
     match audit(alloc, &accepted, &entered, second) {
         Ok(verdict) => Ok(verdict),

@@ -1,17 +1,15 @@
 //! The top call: from the words and the input to the output and the status.
-ghost use Rattle.std.specs.Prelude.{◌≡◌, ◌≢◌, ◌⊎◌, ◌≤◌, true, length, ℕ, List, map, string_bytes, vec_len, Some, None, IfOk, IfErr, IsErrOf};
-ghost use Rattle.array_meaning.specs.Bounds.{most_bytes};
+ghost use Rattle.std.specs.Prelude.{◌≡◌, ◌≤◌, length, ℕ, map, string_bytes, vec_len, Some, None, IfOk, IfErr, IsErrOf};
 ghost use Rattle.command_words.specs.declared.command.Command.{Command};
 ghost use Rattle.command_words.specs.declared.command.Command.TheVariants.{Make};
 ghost use Rattle.lithe_call.specs.declared.status.Status.{Status};
 ghost use Rattle.lithe_call.specs.Printing.{Prints};
 ghost use Rattle.command_words.specs.Form.{form_of};
 ghost use Rattle.command_words.specs.Parts.{harts_in, size_in};
-ghost use Rattle.lithe_call.specs.Command.{runs_programs};
 ghost use Rattle.lithe_call.specs.Inputs.{limit_of, ReadsAll, GivesTooMuch, FailsToRead};
 ghost use Rattle.lithe_call.specs.Auditing.{status_of_ending};
-ghost use Rattle.lithe_call.specs.Output.{IsOutputOf, IsRunOf, IsTallyOf, IsPipeOf};
-ghost use Rattle.lithe_call.specs.Faults.{SpellRefused, SpellUntallied, SpellUnpiped, IsFault, IsNoOutput, IsNoRun};
+ghost use Rattle.lithe_call.specs.Output.{IsAnswer};
+ghost use Rattle.lithe_call.specs.Faults.{IsFault, IsNoOutput};
 ghost use Rattle.lithe_call.specs.FaultOf.{status_of, line_of};
 ghost use Rattle.lithe_call.specs.Status.{constant_text};
 ghost use Rattle.lithe_call.specs.Served.{IsOutputFor, AreServed};
@@ -22,13 +20,12 @@ use crate::command::{limit, parsed_command};
 use crate::fault::Fault;
 use crate::pipe::piped;
 use crate::reading::{ReadError, read_all};
-use crate::run::answer;
+use crate::run::{ran, ran_made, ran_solo};
 use crate::status::{Status, constant_text};
 use crate::tally::tallied;
 use crate::writing::write_all;
 use command_words::Command;
 use outside_io::{Gate, Sink, Source};
-use program_maker::made_text;
 use std::alloc::Global;
 use std::sync::Wait;
 use std::thread::Threads;
@@ -175,70 +172,6 @@ fn input<A: Source>(alloc: Global, source: &mut A, command: Command) -> Result<V
     }
 }
 
-// The output of a run of the program of these bytes, or the fault.
-fn run_of<R: Threads + Wait + Sync, G: Gate>(
-    rt: &R,
-    alloc: Global,
-    gate: &G,
-    command: Command,
-    bytes: &[u8],
-) -> Result<Answer, Fault>
-    requires short { length bytes.now ≤ most_bytes }
-    requires runs { runs_programs command ≡ true }
-    requires some_hart { 1 ≤ harts_in command }
-    requires few_harts { harts_in command ≤ 16 }
-    ensures output { IfOk result (λ answer. IsRunOf command bytes.now answer.text.items) }
-    ensures done { IfOk result (λ answer. status_of_ending answer.ending ≡ Status.Done) }
-    ensures fault { IfErr result (IsNoRun (SpellRefused (harts_in command)) bytes.now) }
-{
-    Ok(Answer {
-        text: answer(rt, alloc, gate, command, bytes)?,
-        ending: Ending::Written,
-    })
-}
-
-// The output of `tally` for the program of these bytes, or the fault.
-fn tally_of<R: Threads + Wait + Sync, G: Gate>(
-    rt: &R,
-    alloc: Global,
-    gate: &G,
-    harts: u8,
-    bytes: &[u8],
-) -> Result<Answer, Fault>
-    requires short { length bytes.now ≤ most_bytes }
-    requires some_hart { 1 ≤ harts }
-    requires few_harts { harts ≤ 16 }
-    ensures output { IfOk result (λ answer. IsTallyOf harts bytes.now answer.text.items) }
-    ensures done { IfOk result (λ answer. status_of_ending answer.ending ≡ Status.Done) }
-    ensures fault { IfErr result (IsNoRun (SpellUntallied harts) bytes.now) }
-{
-    Ok(Answer {
-        text: tallied(rt, alloc, gate, harts, bytes)?,
-        ending: Ending::Written,
-    })
-}
-
-// The output of `pipe` for the program of these bytes, or the fault.
-fn pipe_of<R: Threads + Wait + Sync, G: Gate>(
-    rt: &R,
-    alloc: Global,
-    gate: &G,
-    harts: u8,
-    bytes: &[u8],
-) -> Result<Answer, Fault>
-    requires short { length bytes.now ≤ most_bytes }
-    requires some_hart { 1 ≤ harts }
-    requires few_harts { harts ≤ 16 }
-    ensures output { IfOk result (λ answer. IsPipeOf harts bytes.now answer.text.items) }
-    ensures done { IfOk result (λ answer. status_of_ending answer.ending ≡ Status.Done) }
-    ensures fault { IfErr result (IsNoRun (SpellUnpiped harts) bytes.now) }
-{
-    Ok(Answer {
-        text: piped(rt, alloc, gate, harts, bytes)?,
-        ending: Ending::Written,
-    })
-}
-
 // The output of the command for these bytes.
 fn answer_to<R: Threads + Wait + Sync, G: Gate>(
     rt: &R,
@@ -252,19 +185,15 @@ fn answer_to<R: Threads + Wait + Sync, G: Gate>(
     requires few_harts { harts_in command ≤ 16 }
     requires some_size { 1 ≤ size_in command }
     requires small_size { size_in command ≤ 40 }
-    ensures output { IfOk result
-        (λ answer. IsOutputOf command bytes.now (status_of_ending answer.ending) answer.text.items) }
+    ensures output { IfOk result (IsAnswer command bytes.now) }
     ensures fault { IfErr result (IsNoOutput command bytes.now) }
 {
     match command {
+        Command::Run(harts) => ran(rt, alloc, gate, harts, bytes),
+        Command::Solo => ran_solo(alloc, bytes),
+        Command::Tally(harts) => tallied(rt, alloc, gate, harts, bytes),
+        Command::Pipe(harts) => piped(rt, alloc, gate, harts, bytes),
         Command::Audit(harts) => audited(alloc, harts, bytes),
-        Command::Run(_) | Command::Solo => run_of(rt, alloc, gate, command, bytes),
-        Command::Tally(harts) => tally_of(rt, alloc, gate, harts, bytes),
-        Command::Pipe(harts) => pipe_of(rt, alloc, gate, harts, bytes),
-        Command::Make { seed, size, .. } => {
-            // Why the printed text is run: a refusal then has the lines of that text.
-            let text = made_text(alloc, seed, size)?;
-            run_of(rt, alloc, gate, command, &text)
-        }
+        Command::Make { seed, size, harts } => ran_made(rt, alloc, gate, seed, size, harts),
     }
 }

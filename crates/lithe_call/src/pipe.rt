@@ -1,22 +1,22 @@
 //! From bytes to the output of a program whose members overtake.
-ghost use Rattle.std.specs.Prelude.{◌≡◌, ◌≢◌, ◌≤◌, IfOk, IfErr, length};
+ghost use Rattle.std.specs.Prelude.{◌≤◌, IfOk, IfErr, length};
 ghost use Rattle.array_tree.specs.Trees.{program_of};
 ghost use Rattle.array_meaning.specs.Bounds.{most_bytes};
-ghost use Rattle.phase_order.specs.Crossings.{HasNoCrossings};
-ghost use Rattle.lithe_call.specs.Faults.{SpellUnpiped, IsNoRun};
+ghost use Rattle.command_words.specs.declared.command.Command.TheVariants.{Pipe};
+ghost use Rattle.lithe_call.specs.Faults.{IsNoOutput};
 ghost use Rattle.lithe_call.specs.Lines.{PrintsCrossing};
-ghost use Rattle.lithe_call.specs.Output.{IsRunOutput, IsPipeOf};
+ghost use Rattle.lithe_call.specs.Output.{IsAnswer};
 
+use crate::answer::{Answer, Ending};
 use crate::fault::Fault;
-use crate::run::{refusal, run_text, syntax_fault};
-use array_lang::parse;
+use crate::program::{checked, parsed};
+use crate::run::run_text;
 use array_tree::Program;
-use disjoint_check::{Accepted, check};
 use error_text::crossing_line;
 use hart_loop::run_piped;
 use outside_io::Gate;
 use pipe_walk::{PipeFault, pipe_check};
-use std::alloc::{AllocError, Global};
+use std::alloc::Global;
 use std::sync::Wait;
 use std::thread::Threads;
 
@@ -30,34 +30,30 @@ use std::thread::Threads;
 /// # Memory
 ///
 /// It allocates the program, its run and the output.
+#[tactic(auto, using(crate::proofs::Causes::pipe_nothing, crate::proofs::Piping::check_no_output))]
 pub fn piped<R: Threads + Wait + Sync, G: Gate>(
     rt: &R,
     alloc: Global,
     gate: &G,
     harts: u8,
     bytes: &[u8],
-) -> Result<Vec<u8>, Fault>
+) -> Result<Answer, Fault>
     requires short { length bytes.now ≤ most_bytes }
     requires some_hart { 1 ≤ harts }
     requires few_harts { harts ≤ 16 }
-    ensures output { IfOk result (λ text. IsPipeOf harts bytes.now text.items) }
-    ensures fault { IfErr result (IsNoRun (SpellUnpiped harts) bytes.now) }
+    ensures output { IfOk result (IsAnswer (Pipe harts) bytes.now) }
+    ensures fault { IfErr result (IsNoOutput (Pipe harts) bytes.now) }
 {
-    let program = match parse(alloc, bytes) {
-        Ok(program) => program,
-        Err(fault) => return Err(syntax_fault(alloc, fault)),
-    };
-    let accepted = match check(alloc, &program, harts) {
-        Ok(accepted) => accepted,
-        Err(fault) => return Err(refusal(alloc, &program, fault)),
-    };
+    let program = parsed(alloc, bytes)?;
+    let accepted = checked(alloc, &program, harts)?;
     if let Err(fault) = pipe_check(alloc, &accepted) {
         return Err(crossing_fault(alloc, &program, fault));
     }
-    match overtaken(rt, alloc, gate, &accepted) {
-        Ok(text) => Ok(text),
-        Err(_) => Err(Fault::Memory),
-    }
+    let outcome = run_piped(rt, alloc, &accepted, gate)?;
+    Ok(Answer {
+        text: run_text(alloc, &accepted, &outcome)?,
+        ending: Ending::Written,
+    })
 }
 
 /// The fault of a program with a crossing of two pieces.
@@ -75,19 +71,4 @@ pub fn crossing_fault(alloc: Global, program: &Program, fault: PipeFault) -> Fau
         Ok(line) => Fault::Refused(line),
         Err(_) => Fault::Memory,
     }
-}
-
-// The arrays and the journal of a run whose members overtake.
-fn overtaken<R: Threads + Wait + Sync, G: Gate>(
-    rt: &R,
-    alloc: Global,
-    gate: &G,
-    accepted: &Accepted<'_>,
-) -> Result<Vec<u8>, AllocError>
-    requires { HasNoCrossings (program_of accepted.now.program) }
-    ensures { IfOk result (λ text.
-        IsRunOutput (program_of accepted.now.program) accepted.now.plan.harts text.items) }
-{
-    let outcome = run_piped(rt, alloc, accepted, gate)?;
-    run_text(alloc, accepted, &outcome)
 }

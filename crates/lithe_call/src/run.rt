@@ -1,11 +1,9 @@
-//! From bytes to the output of the program that they spell.
-ghost use Rattle.std.specs.Prelude.{◌≡◌, ◌≢◌, ◌≤◌, IfOk, IfErr, length, true};
+//! `run`, `solo` and `make`: the commands that run a program unchanged.
+ghost use Rattle.std.specs.Prelude.{◌≡◌, ◌≤◌, ℕ, List, IfOk, IfErr, length};
 ghost use Rattle.array_tree.specs.Trees.{program_of};
-ghost use Rattle.lithe_call.specs.Output.{IsOutput, IsRunOf, IsRunOutput, IsSummary};
-ghost use Rattle.command_words.specs.Parts.{harts_in};
-ghost use Rattle.lithe_call.specs.Command.{runs_programs};
-ghost use Rattle.lithe_call.specs.Faults.{SpellRefused, IsNoRun};
-ghost use Rattle.lithe_call.specs.Lines.{PrintsSyntax, PrintsRefusal};
+ghost use Rattle.command_words.specs.declared.command.Command.TheVariants.{Run, Solo, Make};
+ghost use Rattle.lithe_call.specs.Output.{IsAnswer, IsRunOutput, IsSummary};
+ghost use Rattle.lithe_call.specs.Faults.{IsNoOutput};
 ghost use Rattle.array_meaning.specs.Bounds.{most_bytes};
 ghost use Rattle.array_meaning.specs.Work.{final_store};
 ghost use Rattle.array_meaning.specs.Entered.{entered_of};
@@ -14,113 +12,86 @@ ghost use Rattle.transfer_table.specs.Plan.{most_entries};
 ghost use Rattle.transfer_table.specs.Journal.{IsComplete};
 ghost use Rattle.lone_hart.specs.Journals.{entries_in};
 
-use crate::command::harts;
+use crate::answer::{Answer, Ending};
 use crate::fault::Fault;
+use crate::program::{checked, parsed};
 use crate::summing::write_summary;
 use array_eval::{run_one, write_arrays};
-use array_lang::{SyntaxFault, parse};
-use array_tree::Program;
-use command_words::Command;
-use disjoint_check::{Accepted, CheckFault, check};
-use error_text::{refusal_line, syntax_line};
+use disjoint_check::Accepted;
 use hart_loop::run_harts;
 use journal_text::write_entries;
 use lone_hart::{Outcome, run_alone};
 use outside_io::Gate;
+use program_maker::made_text;
 use std::alloc::{AllocError, Global};
 use std::sync::Wait;
 use std::thread::Threads;
 
-/// The output of a command that runs programs, for the program that the bytes spell.
-///
-/// # Errors
-///
-/// `Fault::Syntax` if the bytes spell no program. `Refused` if the program isn't accepted. `Memory` if an allocation fails.
-///
-/// # Memory
-///
-/// It allocates the program, its run and the output.
-pub fn answer<R: Threads + Wait + Sync, G: Gate>(
+/// The output of `run` for the program that the bytes spell. `harts` is 1 to 16. The errors are `Syntax` if the bytes spell no
+/// program, `Refused` if the program isn't accepted, and `Memory`.
+#[tactic(auto, using(crate::proofs::Causes::run_nothing, crate::proofs::Causes::run_refused))]
+pub(crate) fn ran<R: Threads + Wait + Sync, G: Gate>(
     rt: &R,
     alloc: Global,
     gate: &G,
-    command: Command,
+    harts: u8,
     bytes: &[u8],
-) -> Result<Vec<u8>, Fault>
+) -> Result<Answer, Fault>
     requires short { length bytes.now ≤ most_bytes }
-    requires runs { runs_programs command ≡ true }
-    requires some_hart { 1 ≤ harts_in command }
-    requires few_harts { harts_in command ≤ 16 }
-    ensures output { IfOk result (λ output. IsRunOf command bytes.now output.items) }
-    ensures fault { IfErr result (IsNoRun (SpellRefused (harts_in command)) bytes.now) }
+    requires some_hart { 1 ≤ harts }
+    requires few_harts { harts ≤ 16 }
+    ensures output { IfOk result (IsAnswer (Run harts) bytes.now) }
+    ensures fault { IfErr result (IsNoOutput (Run harts) bytes.now) }
 {
-    let program = match parse(alloc, bytes) {
-        Ok(program) => program,
-        Err(fault) => return Err(syntax_fault(alloc, fault)),
-    };
-    let accepted = match check(alloc, &program, harts(command)) {
-        Ok(accepted) => accepted,
-        Err(fault) => return Err(refusal(alloc, &program, fault)),
-    };
-    match output(rt, alloc, gate, command, &accepted) {
-        Ok(output) => Ok(output),
-        Err(_) => Err(Fault::Memory),
-    }
+    let program = parsed(alloc, bytes)?;
+    let accepted = checked(alloc, &program, harts)?;
+    let outcome = outcome(rt, alloc, gate, &accepted)?;
+    Ok(Answer {
+        text: run_text(alloc, &accepted, &outcome)?,
+        ending: Ending::Written,
+    })
 }
 
-/// The fault of a text that spells no program.
-///
-/// # Memory
-///
-/// It allocates the fault's line. If that fails, it returns `Fault::Memory`.
-pub fn syntax_fault(alloc: Global, fault: SyntaxFault) -> Fault
-    ensures { PrintsSyntax fault result }
+/// The output of `solo` for the program that the bytes spell. The errors are those of `ran`.
+#[tactic(auto, using(crate::proofs::Causes::solo_nothing, crate::proofs::Causes::solo_refused))]
+pub(crate) fn ran_solo(alloc: Global, bytes: &[u8]) -> Result<Answer, Fault>
+    requires short { length bytes.now ≤ most_bytes }
+    ensures output { IfOk result (IsAnswer Solo bytes.now) }
+    ensures fault { IfErr result (IsNoOutput Solo bytes.now) }
 {
-    if fault == SyntaxFault::Memory {
-        return Fault::Memory;
-    }
-    match syntax_line(alloc, fault) {
-        Ok(line) => Fault::Syntax(line),
-        Err(_) => Fault::Memory,
-    }
+    let program = parsed(alloc, bytes)?;
+    let accepted = checked(alloc, &program, 1)?;
+    Ok(Answer {
+        text: arrays(alloc, &accepted)?,
+        ending: Ending::Written,
+    })
 }
 
-/// The fault of a program that isn't accepted.
-///
-/// # Memory
-///
-/// It allocates the fault's line. If that fails, it returns `Fault::Memory`.
-pub fn refusal(alloc: Global, program: &Program, fault: CheckFault) -> Fault
-    ensures { PrintsRefusal (program_of program.now) fault result }
-{
-    if fault == CheckFault::Memory {
-        return Fault::Memory;
-    }
-    match refusal_line(alloc, program, fault) {
-        Ok(line) => Fault::Refused(line),
-        Err(_) => Fault::Memory,
-    }
-}
-
-// The output of the command for an accepted program.
-fn output<R: Threads + Wait + Sync, G: Gate>(
+/// The output of `make`, which has no input. `size` is 1 to 40, `harts` 1 to 16. The errors are `Refused` and `Memory`.
+#[tactic(auto, using(crate::proofs::Endings::made_no_syntax, crate::proofs::Endings::made_refused))]
+pub(crate) fn ran_made<R: Threads + Wait + Sync, G: Gate>(
     rt: &R,
     alloc: Global,
     gate: &G,
-    command: Command,
-    accepted: &Accepted<'_>,
-) -> Result<Vec<u8>, AllocError>
-    requires runs { runs_programs command ≡ true }
-    requires harts { accepted.now.plan.harts ≡ harts_in command }
-    ensures { IfOk result (λ output.
-        IsOutput command (program_of accepted.now.program) output.items) }
+    seed: u64,
+    size: u8,
+    harts: u8,
+) -> Result<Answer, Fault>
+    requires some_size { 1 ≤ size }
+    requires small_size { size ≤ 40 }
+    requires some_hart { 1 ≤ harts }
+    requires few_harts { harts ≤ 16 }
+    ensures output { (bytes : List ℕ) → IfOk result (IsAnswer (Make seed size harts) bytes) }
+    ensures fault { (bytes : List ℕ) → IfErr result (IsNoOutput (Make seed size harts) bytes) }
 {
-    match command {
-        Command::Run(_) => run(rt, alloc, gate, accepted),
-        Command::Solo => arrays(alloc, accepted),
-        Command::Make { .. } => summary(rt, alloc, gate, accepted),
-        Command::Tally(_) | Command::Pipe(_) | Command::Audit(_) => unreachable!(),
-    }
+    // Why the printed text is run: a refusal then has the lines of that text.
+    let spelling = made_text(alloc, seed, size)?;
+    let program = parsed(alloc, &spelling)?;
+    let accepted = checked(alloc, &program, harts)?;
+    Ok(Answer {
+        text: summary(rt, alloc, gate, &accepted)?,
+        ending: Ending::Written,
+    })
 }
 
 // The arrays as the one-thread meaning leaves them.
@@ -131,20 +102,6 @@ fn arrays(alloc: Global, accepted: &Accepted<'_>) -> Result<Vec<u8>, AllocError>
     let program = accepted.program();
     let store = run_one(alloc, program)?;
     write_arrays(alloc, program, &store)
-}
-
-// The arrays and the journal of a run.
-fn run<R: Threads + Wait + Sync, G: Gate>(
-    rt: &R,
-    alloc: Global,
-    gate: &G,
-    accepted: &Accepted<'_>,
-) -> Result<Vec<u8>, AllocError>
-    ensures { IfOk result (λ text.
-        IsRunOutput (program_of accepted.now.program) accepted.now.plan.harts text.items) }
-{
-    let outcome = outcome(rt, alloc, gate, accepted)?;
-    run_text(alloc, accepted, &outcome)
 }
 
 /// The arrays and the journal of a run's outcome.

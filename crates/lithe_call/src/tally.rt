@@ -1,21 +1,23 @@
 //! From bytes to the output of a program whose branches and members add into one cell.
-ghost use Rattle.std.specs.Prelude.{◌≡◌, ◌≢◌, ◌≤◌, IfOk, IfErr, OnOk, length, None};
+ghost use Rattle.std.specs.Prelude.{◌≡◌, ◌≤◌, IfOk, IfErr, OnOk, length, None};
 ghost use Rattle.array_tree.specs.Trees.{program_of};
 ghost use Rattle.array_meaning.specs.Bounds.{most_bytes};
 ghost use Rattle.disjoint_check.specs.Meaning.{HasMeaningFor};
 ghost use Rattle.spread_laws.specs.Faults.{spread_fault_of};
 ghost use Rattle.spread_laws.specs.Served.{HasMeaning, IsTallyKept};
 ghost use Rattle.spread_laws.specs.Spread.{spread_of};
-ghost use Rattle.lithe_call.specs.Faults.{PrintsUntallied, SpellUntallied, IsNoRun};
+ghost use Rattle.command_words.specs.declared.command.Command.TheVariants.{Tally};
+ghost use Rattle.lithe_call.specs.Faults.{IsNoOutput, PrintsUntallied};
 ghost use Rattle.lithe_call.specs.Lines.{PrintsTally};
-ghost use Rattle.lithe_call.specs.Output.{IsRunOutput, IsTallyOf};
+ghost use Rattle.lithe_call.specs.Output.{IsAnswer, IsRunOutput};
 
+use crate::answer::{Answer, Ending};
 use crate::fault::Fault;
-use crate::run::{outcome, refusal, syntax_fault};
+use crate::program::{checked, parsed, refusal};
+use crate::run::outcome;
 use array_eval::{count_cells, write_arrays};
-use array_lang::parse;
 use array_tree::Program;
-use disjoint_check::{Accepted, check, check_meaning};
+use disjoint_check::{Accepted, check_meaning};
 use error_text::tally_line;
 use journal_text::write_entries;
 use outside_io::Gate;
@@ -34,33 +36,28 @@ use tally_cells::{TallyFault, first_cells, spread};
 /// # Memory
 ///
 /// It allocates the program, the program with rows, its run and the output.
-#[tactic(auto, using(crate::proofs::Tallying::untallied_line))]
+#[tactic(auto, using(crate::proofs::Causes::tally_nothing, crate::proofs::Tallying::untallied_line, crate::proofs::Tallying::rows_no_output))]
 pub fn tallied<R: Threads + Wait + Sync, G: Gate>(
     rt: &R,
     alloc: Global,
     gate: &G,
     harts: u8,
     bytes: &[u8],
-) -> Result<Vec<u8>, Fault>
+) -> Result<Answer, Fault>
     requires short { length bytes.now ≤ most_bytes }
     requires some_hart { 1 ≤ harts }
     requires few_harts { harts ≤ 16 }
-    ensures output { IfOk result (λ text. IsTallyOf harts bytes.now text.items) }
-    ensures fault { IfErr result (IsNoRun (SpellUntallied harts) bytes.now) }
+    ensures output { IfOk result (IsAnswer (Tally harts) bytes.now) }
+    ensures fault { IfErr result (IsNoOutput (Tally harts) bytes.now) }
 {
-    let program = match parse(alloc, bytes) {
-        Ok(program) => program,
-        Err(fault) => return Err(syntax_fault(alloc, fault)),
-    };
+    let program = parsed(alloc, bytes)?;
     let spread = with_rows(alloc, harts, &program)?;
-    let accepted = match check(alloc, &spread, harts) {
-        Ok(accepted) => accepted,
-        Err(fault) => return Err(refusal(alloc, &spread, fault)),
-    };
-    match sums(rt, alloc, gate, &program, &accepted) {
-        Ok(text) => Ok(text),
-        Err(_) => Err(Fault::Memory),
-    }
+    let accepted = checked(alloc, &spread, harts)?;
+    let text = sums(rt, alloc, gate, &program, &accepted)?;
+    Ok(Answer {
+        text,
+        ending: Ending::Written,
+    })
 }
 
 /// The program in which each branch or member adds into a row of its own. `harts` is 1 to 16.

@@ -3,9 +3,7 @@ use Rattle.std.proofs.Common.{◌≡◌, ◌∙◌, ◌⊎◌, ◌≤◌, ℕ, L
 use Rattle.transfer_table.specs.Plan.{Plan}
 use Rattle.array_tree.specs.Trees.{ProgramTree}
 use Rattle.array_lang.specs.Spelled.{Spells}
-use Rattle.disjoint_check.specs.FaultOf.{check_fault_of}
-use Rattle.disjoint_check.specs.declared.fault.CheckFault.{CheckFault}
-use Rattle.disjoint_check.specs.declared.fault.CheckFault.TheVariants as check
+use Rattle.disjoint_check.specs.Meaning.{HasMeaningFor}
 use Rattle.disjoint_check.proofs.Accepting.{none_of_accepted}
 use Rattle.journal_text.specs.declared.fault.TextFault.{TextFault}
 use Rattle.journal_text.specs.declared.fault.TextFault.TheVariants as text
@@ -18,28 +16,29 @@ use Rattle.run_audit.specs.Audit.{audit_of}
 use Rattle.journal_picture.specs.declared.shape.Kind.{Kind}
 use Rattle.picture_call.specs.Picture.{Pictured, picture_of}
 use Rattle.picture_call.specs.declared.picture.Form.{Form}
-use Rattle.lithe_call.specs.Faults.{IsNoRun, PrintsUntallied, PrintsUnpiped}
-use Rattle.lithe_call.specs.Lines.{PrintsRefusal, PrintsText}
+use Rattle.spread_laws.specs.Faults.{spread_fault_of}
+use Rattle.spread_laws.specs.Spread.{spread_of}
+use Rattle.lithe_call.specs.Faults.{SpellNothing, IsUnaccepted, PrintsUntallied, PrintsUnpiped}
+use Rattle.lithe_call.specs.Lines.{PrintsText, ReportsSyntax, ReportsRefusal}
 use Rattle.lithe_call.specs.Programs.{table_plan}
 use Rattle.lithe_call.specs.declared.fault.Fault.{Fault}
 use Rattle.lithe_call.specs.declared.fault.Fault.TheVariants as fault
 use Rattle.lithe_call.proofs.Runs.{printed_plan}
-use Rattle.lithe_call.proofs.Tallying.{untallied_line}
-use Rattle.lithe_call.proofs.Piping.{unpiped_line}
+use Rattle.lithe_call.proofs.Tallying.{untallied_line, rows_refused}
+use Rattle.lithe_call.proofs.Piping.{unpiped_line, check_refused}
 use Rattle.picture_call.specs.declared.runner.Runner.{Runner}
 use Rattle.picture_call.specs.declared.runner.Runner.TheVariants.{Run, Tally, Pipe}
-use Rattle.picture_call.specs.Causes.{AreRefused, HaveNoPicture, ReportsNoOutput, ReportsNoPicture}
+use Rattle.picture_call.specs.Causes.{HaveNoPicture, ReportsNoOutput, ReportsNoPicture}
 use Rattle.picture_call.specs.Pictures.{AreDrawn, IsRunBy, teams_of}
 
 -- A text that spells no program has no picture.
-pub no_run_no_picture : (runner : Runner) (harts : ℕ) (first second : List ℕ) (why : Fault) → IsNoRun (λ bytes line. AreRefused runner harts line bytes second) first why
-    → HaveNoPicture runner harts first second why
-no_run_no_picture runner harts first second fault.Usage h = h
-no_run_no_picture runner harts first second fault.TooLong h = h
-no_run_no_picture runner harts first second fault.ReadFault h = h
-no_run_no_picture runner harts first second (fault.Syntax line) h = inl h
-no_run_no_picture runner harts first second (fault.Refused line) h = h
-no_run_no_picture runner harts first second fault.Memory h = tt
+pub syntax_no_picture : (runner : Runner) (harts : ℕ) (first second : List ℕ) (why : Fault) → ReportsSyntax (SpellNothing first) why → HaveNoPicture runner harts first second why
+syntax_no_picture runner harts first second fault.Usage reported = reported
+syntax_no_picture runner harts first second fault.TooLong reported = reported
+syntax_no_picture runner harts first second fault.ReadFault reported = reported
+syntax_no_picture runner harts first second (fault.Syntax line) reported = inl reported
+syntax_no_picture runner harts first second (fault.Refused line) reported = absurd reported
+syntax_no_picture runner harts first second fault.Memory reported = tt
 
 -- What is so of the program is so of the bytes that spell it.
 pub program_no_picture : (runner : Runner) (harts : ℕ) (first second : List ℕ) (program : ProgramTree) (why : Fault) → length first ≤ 65536 → Spells first program
@@ -61,17 +60,13 @@ program_no_picture Pipe harts first second program (fault.Refused line) short sp
 program_no_picture runner harts first second program fault.Memory short spelled reported = tt
 
 -- The check refuses the program to `run`.
-pub check_no_picture : (harts : ℕ) (program : ProgramTree) (output : List ℕ) (cause : CheckFault) (why : Fault) → PrintsRefusal program cause why
-    → (cause ≡ check.Memory) ⊎ (check_fault_of program harts ≡ Some cause) → ReportsNoPicture Run harts program output why
-check_no_picture harts program output cause fault.Usage reported first = absurd reported
-check_no_picture harts program output cause fault.TooLong reported first = absurd reported
-check_no_picture harts program output cause fault.ReadFault reported first = absurd reported
-check_no_picture harts program output cause (fault.Syntax line) reported first = absurd reported
-check_no_picture harts program output cause (fault.Refused line) reported first = elim first [
-  | inl memory ↦ absurd (reported.0 memory)
-  | inr is ↦ record { fault = cause; is = is; real = reported.0; printed = reported.1 }
-]
-check_no_picture harts program output cause fault.Memory reported first = tt
+pub check_no_picture : (harts : ℕ) (program : ProgramTree) (output : List ℕ) (why : Fault) → ReportsRefusal (IsUnaccepted harts program) why → ReportsNoPicture Run harts program output why
+check_no_picture harts program output fault.Usage reported = absurd reported
+check_no_picture harts program output fault.TooLong reported = absurd reported
+check_no_picture harts program output fault.ReadFault reported = absurd reported
+check_no_picture harts program output (fault.Syntax line) reported = absurd reported
+check_no_picture harts program output (fault.Refused line) reported = reported
+check_no_picture harts program output fault.Memory reported = tt
 
 -- It is refused to `tally`, or to `pipe`.
 pub tally_no_picture : (harts : ℕ) (program : ProgramTree) (output : List ℕ) (why : Fault) → PrintsUntallied harts program why → ReportsNoPicture Tally harts program output why
@@ -89,6 +84,15 @@ pipe_no_picture harts program output fault.ReadFault reported = absurd reported
 pipe_no_picture harts program output (fault.Syntax line) reported = absurd reported
 pipe_no_picture harts program output (fault.Refused line) reported = reported
 pipe_no_picture harts program output fault.Memory reported = tt
+
+-- The check refuses the program with rows to `tally`, or the program to `pipe`.
+pub rows_no_picture : (harts : ℕ) (program rows : ProgramTree) (output : List ℕ) (why : Fault) → HasMeaningFor program harts → spread_fault_of program ≡ None
+    → rows ≡ spread_of program → ReportsRefusal (IsUnaccepted harts rows) why → ReportsNoPicture Tally harts program output why
+rows_no_picture harts program rows output why meaning shaped same reported =
+    tally_no_picture harts program output why (rows_refused harts program rows why meaning shaped same reported)
+
+pub unpiped_no_picture : (harts : ℕ) (program : ProgramTree) (output : List ℕ) (why : Fault) → ReportsRefusal (IsUnaccepted harts program) why → ReportsNoPicture Pipe harts program output why
+unpiped_no_picture harts program output why reported = pipe_no_picture harts program output why (check_refused harts program why reported)
 
 -- The output is refused by the program's plan.
 output_no_picture : (runner : Runner) (harts : ℕ) (program : ProgramTree) (output : List ℕ) (why : Fault) → IsRunBy runner harts program

@@ -14,11 +14,9 @@ ghost use Rattle.picture_call.specs.Pictures.{AreDrawn, HasPicture, IsRunBy, tea
 use crate::parsing::Wanted;
 use crate::picture::{Form, Picture, picture_of};
 use crate::runner::Runner;
-use array_lang::parse;
 use array_tree::Program;
-use disjoint_check::check;
 use journal_picture::Kind;
-use lithe_call::{Fault, MOST_BYTES, crossing_fault, refusal, syntax_fault, text_fault, with_rows};
+use lithe_call::{Fault, MOST_BYTES, checked, crossing_fault, parsed, text_fault, with_rows};
 use pipe_walk::pipe_check;
 use run_audit::parts_of;
 use std::alloc::Global;
@@ -57,6 +55,7 @@ pub fn drawn(alloc: Global, wanted: Wanted, bytes: &[u8]) -> Result<Picture, Fau
 }
 
 // The picture of the second part by the program of the first.
+#[tactic(auto, using(crate::proofs::Refusing::syntax_no_picture))]
 fn picture(alloc: Global, wanted: Wanted, first: &[u8], second: &[u8]) -> Result<Picture, Fault>
     requires short { length first.now ≤ most_bytes }
     requires short_output { length second.now ≤ most_audited }
@@ -66,10 +65,7 @@ fn picture(alloc: Global, wanted: Wanted, first: &[u8], second: &[u8]) -> Result
         (picture_seen picture) first.now second.now) }
     ensures fault { IfErr result (HaveNoPicture wanted.runner wanted.harts first.now second.now) }
 {
-    let program = match parse(alloc, first) {
-        Ok(program) => program,
-        Err(fault) => return Err(syntax_fault(alloc, fault)),
-    };
+    let program = parsed(alloc, first)?;
     picture_by(alloc, wanted, &program, second)
 }
 
@@ -97,6 +93,7 @@ fn picture_by(
 }
 
 // The picture of an output of `run`.
+#[tactic(auto, using(crate::proofs::Refusing::check_no_picture))]
 fn of_run(
     alloc: Global,
     form: Form,
@@ -113,15 +110,12 @@ fn of_run(
     ensures fault { IfErr result
         (ReportsNoPicture Runner.Run harts (program_of program.now) output.now) }
 {
-    let accepted = match check(alloc, program, harts) {
-        Ok(accepted) => accepted,
-        Err(fault) => return Err(refusal(alloc, program, fault)),
-    };
+    let accepted = checked(alloc, program, harts)?;
     by_plan(alloc, form, Runner::Run, program, accepted.plan(), output)
 }
 
 // The picture of an output of `tally`: the program with rows has the plan of the given one.
-#[tactic(auto, using(crate::proofs::Refusing::tally_no_picture))]
+#[tactic(auto, using(crate::proofs::Refusing::tally_no_picture, crate::proofs::Refusing::rows_no_picture))]
 fn of_tally(
     alloc: Global,
     form: Form,
@@ -139,14 +133,12 @@ fn of_tally(
         (ReportsNoPicture Runner.Tally harts (program_of program.now) output.now) }
 {
     let rows = with_rows(alloc, harts, program)?;
-    let accepted = match check(alloc, &rows, harts) {
-        Ok(accepted) => accepted,
-        Err(fault) => return Err(refusal(alloc, &rows, fault)),
-    };
+    let accepted = checked(alloc, &rows, harts)?;
     by_plan(alloc, form, Runner::Tally, program, accepted.plan(), output)
 }
 
 // The picture of an output of `pipe`.
+#[tactic(auto, using(crate::proofs::Refusing::unpiped_no_picture))]
 fn of_pipe(
     alloc: Global,
     form: Form,
@@ -163,10 +155,7 @@ fn of_pipe(
     ensures fault { IfErr result
         (ReportsNoPicture Runner.Pipe harts (program_of program.now) output.now) }
 {
-    let accepted = match check(alloc, program, harts) {
-        Ok(accepted) => accepted,
-        Err(fault) => return Err(refusal(alloc, program, fault)),
-    };
+    let accepted = checked(alloc, program, harts)?;
     if let Err(fault) = pipe_check(alloc, &accepted) {
         return Err(crossing_fault(alloc, program, fault));
     }

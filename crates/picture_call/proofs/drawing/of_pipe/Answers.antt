@@ -7,7 +7,7 @@ use Rattle.transfer_table.specs.Plan.{Plan}
 use Rattle.phase_order.specs.Crossings.{HasNoCrossings}
 use Rattle.pipe_walk.specs.FirstCrossing.{IsFaultOf}
 use Rattle.picture_call.specs.Seen.{picture_seen}
-use Rattle.lithe_call.proofs.Piping.{check_printed, crossing_printed}
+use Rattle.lithe_call.proofs.Piping.{crossing_printed}
 use Rattle.picture_call.specs.declared.runner.Runner.TheVariants as runner
 use Rattle.picture_call.specs.Pictures.{teams_of}
 use Rattle.picture_call.proofs.Refusing.{pipe_no_picture, plan_no_picture, plan_picture, plan_runs, right_plan}
@@ -16,46 +16,40 @@ use Rattle.picture_call.proofs.drawing.of_pipe.Goals as goal
 pub returns-in-Err-clause-fault : goal.returns-in-Err-clause-fault
 returns-in-Err-clause-fault c =
     let program = program_of c.args.program.now in
-    pipe_no_picture c.args.harts program c.args.output.now c.refusal.result
-    (check_printed c.args.harts program c.in-Err.fault c.refusal.result c.refusal.ensures c.in-Err.ensures.fault)
-
-pub returns-in-Err-pipe_check-clause-fault : goal.returns-in-Err-pipe_check-clause-fault
-returns-in-Err-pipe_check-clause-fault c =
-    let program = program_of c.args.program.now in
     pipe_no_picture c.args.harts program c.args.output.now c.crossing_fault.result
-    (crossing_printed c.args.harts program c.in-Err-pipe_check.fault c.crossing_fault.result c.in-Ok.ensures.accepted c.crossing_fault.ensures
-    (subst (λ (p : Program). IsFaultOf (program_of p) c.in-Err-pipe_check.fault) c.in-Ok.ensures.program c.in-Err-pipe_check.ensures.fault))
+    (crossing_printed c.args.harts program c.in-Err.fault c.crossing_fault.result c.in_ok-accepted.ensures.accepted c.crossing_fault.ensures
+    (subst (λ (p : Program). IsFaultOf (program_of p) c.in-Err.fault) c.in_ok-accepted.ensures.program c.in-Err.ensures.fault))
 
 pub by_plan-requires-clause-sized : goal.by_plan-requires-clause-sized
-by_plan-requires-clause-sized c = sized_in_range (program_of c.args.program.now) c.in-Ok.ensures.accepted.accepted.ranges
+by_plan-requires-clause-sized c = sized_in_range (program_of c.args.program.now) c.in_ok-accepted.ensures.accepted.accepted.ranges
 
 pub by_plan-requires-clause-parents : goal.by_plan-requires-clause-parents
 by_plan-requires-clause-parents c =
-    ap (λ (p : Plan). p.parents) c.plan.ensures.same ∙ c.plan.ensures.kept.parents ∙ ap (λ (p : Program). plan_of (program_of p)) c.in-Ok.ensures.program
+    ap (λ (p : Plan). p.parents) c.plan.ensures.same ∙ c.plan.ensures.kept.parents ∙ ap (λ (p : Program). plan_of (program_of p)) c.in_ok-accepted.ensures.program
 
 pub returns-clause-runs : goal.returns-clause-runs
 returns-clause-runs c =
     let program = program_of c.args.program.now in
     plan_runs c.by_plan.result runner.Pipe c.args.harts program (record {
-      accepted = c.in-Ok.ensures.accepted;
-      uncrossed = subst (λ (p : Program). HasNoCrossings (program_of p)) c.in-Ok.ensures.program c.in_default.ensures.ok;
+      accepted = c.in_ok-accepted.ensures.accepted;
+      uncrossed = subst (λ (p : Program). HasNoCrossings (program_of p)) c.in_ok-accepted.ensures.program c.in_default.ensures.ok;
     })
 
 pub returns-clause-drawn : goal.returns-clause-drawn
 returns-clause-drawn c =
     let program = program_of c.args.program.now in
     plan_picture c.by_plan.result picture_seen c.args.form (teams_of runner.Pipe) c.args.harts program c.plan.result.now c.args.output.now
-    (right_plan c.plan.result.now c.in-Ok.accepted.plan program c.args.harts c.plan.ensures.same
-    (c.plan.ensures.kept.parents ∙ ap (λ (p : Program). plan_of (program_of p)) c.in-Ok.ensures.program) c.in-Ok.ensures.harts)
+    (right_plan c.plan.result.now c.in_ok-accepted.accepted.plan program c.args.harts c.plan.ensures.same
+    (c.plan.ensures.kept.parents ∙ ap (λ (p : Program). plan_of (program_of p)) c.in_ok-accepted.ensures.program) c.in_ok-accepted.ensures.harts)
     c.by_plan.ensures.drawn
 
 pub returns-clause-fault : goal.returns-clause-fault
 returns-clause-fault c =
     let program = program_of c.args.program.now in
     plan_no_picture c.by_plan.result runner.Pipe c.args.harts program c.plan.result.now c.args.output.now
-    (right_plan c.plan.result.now c.in-Ok.accepted.plan program c.args.harts c.plan.ensures.same
-    (c.plan.ensures.kept.parents ∙ ap (λ (p : Program). plan_of (program_of p)) c.in-Ok.ensures.program) c.in-Ok.ensures.harts)
+    (right_plan c.plan.result.now c.in_ok-accepted.accepted.plan program c.args.harts c.plan.ensures.same
+    (c.plan.ensures.kept.parents ∙ ap (λ (p : Program). plan_of (program_of p)) c.in_ok-accepted.ensures.program) c.in_ok-accepted.ensures.harts)
     (record {
-      accepted = c.in-Ok.ensures.accepted;
-      uncrossed = subst (λ (p : Program). HasNoCrossings (program_of p)) c.in-Ok.ensures.program c.in_default.ensures.ok;
+      accepted = c.in_ok-accepted.ensures.accepted;
+      uncrossed = subst (λ (p : Program). HasNoCrossings (program_of p)) c.in_ok-accepted.ensures.program c.in_default.ensures.ok;
     }) c.by_plan.ensures.fault
