@@ -7,5 +7,5 @@ use Rattle.array_print.proofs.program.program_text.Given as goal
 -- The text so far, with the text of the remaining declarations, is that of all declarations.
 abbrev pub invariant-loop-array : goal.invariant-loop-array
 invariant-loop-array l =
-    l.text.items ++ flat_map declaration_text (map declaration_of (drop l.array-index l.array-items))
+    l.printer.text.items ++ flat_map declaration_text (map declaration_of (drop l.array-index l.array-items))
     ≡ flat_map declaration_text (declarations_of l.program.arrays)
