@@ -1,6 +1,6 @@
 //! A hart's hand on the scheduler of one of its sites.
 ghost use Rattle.std.specs.Prelude.{◌≡◌};
-ghost use Rattle.hart_work.specs.Told.{told_by};
+ghost use Rattle.hart_work.specs.Callbacks.{callback_with};
 ghost use Rattle.hart_work.specs.Hands.{IsSameHand, Hears, Answers};
 
 use crate::machines::Machines;
@@ -54,8 +54,8 @@ impl<'h, R, M: Machines, H: Sites<R, M>> At<'h, R, M, H, H::Site> {
 
     // Makes the callback of the site's scheduler.
     fn hear(&mut self, call: Call, child: u16, count: u8) -> SiteHeard
-        ensures told { result ≡ told_by call child count }
-        ensures hears { Hears H.hart_local H.facts H.hears self.old (told_by call child count) self.new }
+        ensures told { result ≡ callback_with call child count }
+        ensures hears { Hears H.hart_local H.facts H.hears self.old (callback_with call child count) self.new }
     {
         let rt = self.rt;
         let told = self.sites.hear(rt, &mut *self.site, call, child, count);

@@ -10,15 +10,15 @@
 #![tactic(auto)]
 
 mod at;
+mod callbacks;
 mod found;
 mod machines;
 mod serving;
 mod sites;
-mod telling;
 
 pub use at::{At, SiteHeard, SiteSeal};
+pub use callbacks::{call_back, callback_with};
 pub use found::Found;
 pub use machines::Machines;
 pub use serving::{run_construct, run_piece, serve};
 pub use sites::Sites;
-pub use telling::{tell, told_by};

@@ -5,7 +5,7 @@ ghost use Rattle.transfer_table.specs.Plan.{Plan, IsPlan};
 ghost use Rattle.transfer_table.specs.declared.entry.Entry.{Entry};
 ghost use Rattle.transfer_table.specs.declared.entry.Entry.TheVariants.{Register, Unregister};
 ghost use Rattle.sched_api.specs.declared.hearing.Told.{Told};
-ghost use Rattle.hart_work.specs.Told.{told_by};
+ghost use Rattle.hart_work.specs.Callbacks.{callback_with};
 ghost use Rattle.hart_work.specs.Accounts.{HaveEnded};
 ghost use Rattle.hart_work.specs.Sites.{SiteFacts, Stays, Gives};
 
@@ -62,8 +62,8 @@ pub trait Sites<R, M: Machines> {
 
     /// Makes the callback of the site's scheduler.
     fn hear(&mut self, rt: &R, site: &mut Self::Site, call: Call, child: u16, count: u8) -> Told
-        ensures told { result ≡ told_by call child count }
-        ensures hears { hears site.old (told_by call child count) site.new }
+        ensures told { result ≡ callback_with call child count }
+        ensures hears { hears site.old (callback_with call child count) site.new }
         ensures stays { Stays facts site.old site.new }
         ensures hart_local { hart_local self.new ≡ hart_local self.old };
 

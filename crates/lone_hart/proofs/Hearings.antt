@@ -58,15 +58,15 @@ base_stays site before after is = subst (λ (s : LoneSite). Stays lone_facts s (
   left = omega arith;
 })
 
-pub pool_stays : (nested : NestedParts) (site : LoneSite) (before after : pools.PoolParts) (told : Told) → site ≡ Pool nested before → pools.Hears before told after →
+pub pool_stays : (nested : NestedParts) (site : LoneSite) (before after : pools.PoolParts) (callback : Told) → site ≡ Pool nested before → pools.Hears before callback after →
     Stays lone_facts site (Pool nested after)
-pool_stays nested site before after told is hears =
-    let wishes = wishes_after told before.agenda.wishes in
+pool_stays nested site before after callback is hears =
+    let wishes = wishes_after callback before.agenda.wishes in
     subst (λ (p : pools.PoolParts). Stays lone_facts site (Pool nested p)) (sym hears)
     (subst (λ (s : LoneSite). Stays lone_facts s (Pool nested (wished_pool before wishes))) (sym is) (pool_wishes nested before wishes))
 
-pub team_stays : (site : LoneSite) (before after : teams.TeamParts) (told : Told) → site ≡ Team before → teams.Hears before told after → Stays lone_facts site (Team after)
-team_stays site before after told is hears =
-    let wishes = wishes_after told before.agenda.wishes in
+pub team_stays : (site : LoneSite) (before after : teams.TeamParts) (callback : Told) → site ≡ Team before → teams.Hears before callback after → Stays lone_facts site (Team after)
+team_stays site before after callback is hears =
+    let wishes = wishes_after callback before.agenda.wishes in
     subst (λ (t : teams.TeamParts). Stays lone_facts site (Team t)) (sym hears)
     (subst (λ (s : LoneSite). Stays lone_facts s (Team (wished_team before wishes))) (sym is) (team_wishes before wishes))

@@ -5,7 +5,7 @@ use crate::teams::{arrive_in_team, fail_in_team, next_of_team, open_team};
 use array_eval::Overlay;
 use array_jobs::{Job, Piece};
 use array_tree::Block;
-use hart_work::{Sites, tell};
+use hart_work::{Sites, call_back};
 use job_machines::JobMachines;
 use sched_api::{Call, Next, Scheduler, Told};
 use std::alloc::{AllocError, Global};
@@ -80,9 +80,9 @@ impl<'p, R> Sites<R, JobMachines<'p>> for LoneSites<'p> {
         count: u8,
     ) -> Told {
         match site {
-            LoneSite::Base(base) => tell(base, (), call, child, count),
-            LoneSite::Pool { pool, .. } => tell(pool, (), call, child, count),
-            LoneSite::Team(team) => tell(team, (), call, child, count),
+            LoneSite::Base(base) => call_back(base, (), call, child, count),
+            LoneSite::Pool { pool, .. } => call_back(pool, (), call, child, count),
+            LoneSite::Team(team) => call_back(team, (), call, child, count),
         }
     }
 

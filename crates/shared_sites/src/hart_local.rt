@@ -7,7 +7,7 @@ ghost use Rattle.shared_sites.specs.Places.{Fits, PoolFits, TeamFits};
 ghost use Rattle.shared_sites.specs.Completed.{IsCompleted};
 ghost use Rattle.shared_sites.specs.HartLocals.{AreHartLocals};
 ghost use Rattle.shared_sites.specs.Keeping.{handed_to, HandsOver, StillKeeps};
-ghost use Rattle.hart_work.specs.Told.{told_by};
+ghost use Rattle.hart_work.specs.Callbacks.{callback_with};
 ghost use Rattle.forkjoin_sched.specs.Batches.{emptied};
 
 use crate::claims::Claims;
@@ -21,7 +21,7 @@ use base_sched::SharedBaseHand;
 use crossbeam_utils::Backoff;
 use deque_rows::HartRows;
 use forkjoin_sched::{PieceBatch, SharedPool};
-use hart_work::{tell, told_by};
+use hart_work::{call_back, callback_with};
 use loop_team::{ClaimSeat, SharedTeam};
 use pipe_sched::PipeHand;
 use sched_api::{Call, Next, Scheduler, Told};
@@ -170,33 +170,33 @@ impl<'t> HartLocal<'t> {
         count: u8,
     ) -> Told
         requires { Fits self.old scheduler_ref }
-        ensures told { result ≡ told_by call child count }
+        ensures told { result ≡ callback_with call child count }
         ensures hart_local { self.new ≡ self.old }
     {
         match scheduler_ref {
-            SchedulerRef::Base(base) => tell(
+            SchedulerRef::Base(base) => call_back(
                 &mut SharedBaseHand::new(base),
                 rt,
                 call,
                 child,
                 count,
             ),
-            SchedulerRef::Pool(place) => tell(
+            SchedulerRef::Pool(place) => call_back(
                 &mut place.hand(&mut self.rows),
                 rt,
                 call,
                 child,
                 count,
             ),
-            SchedulerRef::Team(place) => tell(
+            SchedulerRef::Team(place) => call_back(
                 &mut place.hand(&mut self.seat),
                 rt,
                 call,
                 child,
                 count,
             ),
-            SchedulerRef::Pipe(pipe) => tell(&mut PipeHand::new(pipe), rt, call, child, count),
-            SchedulerRef::NoScheduler => told_by(call, child, count),
+            SchedulerRef::Pipe(pipe) => call_back(&mut PipeHand::new(pipe), rt, call, child, count),
+            SchedulerRef::NoScheduler => callback_with(call, child, count),
         }
     }
 

@@ -6,9 +6,9 @@ use Rattle.sched_api.specs.declared.hearing.Told.{Told}
 use Rattle.sched_api.specs.Calls.{registered_told, unregistered_told, requested_told, yielded_told, blocked_told}
 
 -- The callback with these arguments.
-abbrev pub told_by : Call → ℕ → ℕ → Told
-told_by Registered child count = registered_told child
-told_by Unregistered child count = unregistered_told child
-told_by Requested child count = requested_told child count
-told_by Yielded child count = yielded_told child
-told_by Blocked child count = blocked_told
+abbrev pub callback_with : Call → ℕ → ℕ → Told
+callback_with Registered child count = registered_told child
+callback_with Unregistered child count = unregistered_told child
+callback_with Requested child count = requested_told child count
+callback_with Yielded child count = yielded_told child
+callback_with Blocked child count = blocked_told

@@ -1,19 +1,19 @@
 //! Callbacks as values.
 ghost use Rattle.std.specs.Prelude.{◌≡◌};
-ghost use Rattle.hart_work.specs.Told.{told_by};
+ghost use Rattle.hart_work.specs.Callbacks.{callback_with};
 
 use sched_api::{Call, Hearing, Scheduler, Told};
 
 /// Makes the callback of the scheduler, and returns what its receipt has.
-pub fn tell<S: Scheduler>(
+pub fn call_back<S: Scheduler>(
     scheduler: &mut S,
     hold: S::Hold,
     call: Call,
     child: u16,
     count: u8,
 ) -> Told
-    ensures told { result ≡ told_by call child count }
-    ensures hears { S.hears scheduler.old (told_by call child count) scheduler.new }
+    ensures told { result ≡ callback_with call child count }
+    ensures hears { S.hears scheduler.old (callback_with call child count) scheduler.new }
     ensures site { S.site_of scheduler.new ≡ S.site_of scheduler.old }
 {
     let heard = match call {
@@ -27,8 +27,8 @@ pub fn tell<S: Scheduler>(
 }
 
 /// The callback with these arguments.
-pub fn told_by(call: Call, child: u16, count: u8) -> Told
-    ensures { result ≡ told_by call child count }
+pub fn callback_with(call: Call, child: u16, count: u8) -> Told
+    ensures { result ≡ callback_with call child count }
 {
     let (child, count) = match call {
         Call::Registered | Call::Unregistered | Call::Yielded => (child, 0),
