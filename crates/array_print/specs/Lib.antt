@@ -1,3 +1,4 @@
 pub mod Texts
 pub mod Spellings
 pub mod Writable
+pub mod Printers

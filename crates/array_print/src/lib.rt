@@ -4,6 +4,7 @@
 
 mod expressions;
 mod laws;
+mod printer;
 mod program;
 mod statements;
 

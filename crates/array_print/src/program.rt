@@ -1,12 +1,12 @@
 //! Programs to text.
 
-ghost use Rattle.std.specs.Prelude.{◌≡◌, ◌++◌, OnOk, IfOk};
+ghost use Rattle.std.specs.Prelude.{◌≡◌, OnOk, IfOk};
 ghost use Rattle.array_tree.specs.Trees.{declaration_of, program_of};
 ghost use Rattle.array_print.specs.Spellings.{IsSpelledButLines, SpellsButLines};
 ghost use Rattle.array_print.specs.Texts.{declaration_text, printed};
+ghost use Rattle.array_print.specs.Printers.{Adds};
 
-use crate::expressions::print_number;
-use crate::statements::print_statements;
+use crate::printer::Printer;
 use array_tree::{ArrayDecl, Program};
 use std::alloc::{AllocError, Global};
 
@@ -33,22 +33,23 @@ pub fn print(alloc: Global, program: &Program) -> Result<Vec<u8>, AllocError>
 fn program_text(alloc: Global, program: &Program) -> Result<Vec<u8>, AllocError>
     ensures { IfOk result (λ text. text.items ≡ printed (program_of program.now)) }
 {
-    let mut text = Vec::new(alloc);
+    let mut printer = Printer::new(alloc);
     for array in &program.arrays.declarations {
-        print_declaration(alloc, &mut text, array)?;
+        printer.declaration(array)?;
     }
-    print_statements(alloc, &mut text, b"".as_slice(), &program.body)?;
-    Ok(text)
+    printer.statements(&program.body)?;
+    Ok(printer.text)
 }
 
-// Adds the line of a declaration.
-fn print_declaration(alloc: Global, out: &mut Vec<u8>, array: &ArrayDecl) -> Result<(), AllocError>
-    ensures { OnOk result (out.new.items
-        ≡ out.old.items ++ declaration_text (declaration_of array.now)) }
-{
-    out.extend_from_slice(b"array ".as_slice())?;
-    out.extend_from_slice(array.name.as_bytes())?;
-    out.extend_from_slice(b"[".as_slice())?;
-    print_number(alloc, out, array.length)?;
-    out.extend_from_slice(b"];\n".as_slice())
+impl Printer {
+    // Adds the line of a declaration.
+    fn declaration(&mut self, array: &ArrayDecl) -> Result<(), AllocError>
+        ensures { OnOk result (Adds self.old (declaration_text (declaration_of array.now)) self.new) }
+    {
+        self.add(b"array ".as_slice())?;
+        self.add(array.name.as_bytes())?;
+        self.add(b"[".as_slice())?;
+        self.number(array.length)?;
+        self.add(b"];\n".as_slice())
+    }
 }
