@@ -25,7 +25,7 @@ impl<'a, 'r, 'p, R: Wait + 'a> PoolHand<'a, 'r, 'p, R> {
         ensures { Offers self.old self.new }
     {
         let site = self.shared.site();
-        let mut kept = self.shared.kept().lock(rt);
+        let mut kept = self.shared.locked(rt);
         let slots = self.shared.slots();
         self.looks
             .offer(rt, &mut kept, slots, self.rows, site, self.level);
@@ -44,7 +44,7 @@ impl<'a, 'r, 'p, R: Wait + 'a> PoolHand<'a, 'r, 'p, R> {
         if !self.shared.has_job(&piece.job) {
             return Deposit::Stranger(piece);
         }
-        match self.shared.kept().lock(rt).as_mut() {
+        match self.shared.locked(rt).as_mut() {
             Some(pool) => {
                 let deposit = pool.put(piece);
                 self.shared.show_full(pool);
@@ -60,7 +60,7 @@ impl<'a, 'r, 'p, R: Wait + 'a> PoolHand<'a, 'r, 'p, R> {
     pub fn hand_over(&mut self, rt: &R, batch: &mut PieceBatch<'p>)
         ensures { HandsOverBy self.old batch.old self.new batch.new }
     {
-        let mut kept = self.shared.kept().lock(rt);
+        let mut kept = self.shared.locked(rt);
         self.looks.hand_over(&mut kept, batch);
         if let Some(pool) = kept.as_ref() {
             self.shared.show_full(pool);
@@ -71,7 +71,7 @@ impl<'a, 'r, 'p, R: Wait + 'a> PoolHand<'a, 'r, 'p, R> {
     ///
     /// It does nothing if the slot doesn't exist, if it is filled or failed, or if the pool was handed out.
     pub fn fail(&self, rt: &R, place: u8) {
-        if let Some(pool) = self.shared.kept().lock(rt).as_mut() {
+        if let Some(pool) = self.shared.locked(rt).as_mut() {
             if pool.is_open(place) {
                 pool.fail(place);
                 self.shared.show_full(pool);
@@ -85,7 +85,7 @@ impl<'a, 'r, 'p, R: Wait + 'a> PoolHand<'a, 'r, 'p, R> {
         if !self.shared.shows_full() {
             return false;
         }
-        match self.shared.kept().lock(rt).as_ref() {
+        match self.shared.locked(rt).as_ref() {
             Some(pool) => pool.is_full(),
             None => true,
         }
@@ -93,7 +93,7 @@ impl<'a, 'r, 'p, R: Wait + 'a> PoolHand<'a, 'r, 'p, R> {
 
     /// Whether some slot is failed; false if the pool was handed out.
     pub fn has_failed(&self, rt: &R) -> bool {
-        match self.shared.kept().lock(rt).as_ref() {
+        match self.shared.locked(rt).as_ref() {
             Some(pool) => pool.has_failed(),
             None => false,
         }
@@ -103,7 +103,7 @@ impl<'a, 'r, 'p, R: Wait + 'a> PoolHand<'a, 'r, 'p, R> {
     pub fn take_out(&self, rt: &R) -> Option<Pool<'p>>
         ensures { IfSome result (λ pool. IsFull pool.book) }
     {
-        let mut kept = self.shared.kept().lock(rt);
+        let mut kept = self.shared.locked(rt);
         match kept.as_ref() {
             Some(pool) if pool.is_full() => {}
             Some(_) => return None,
@@ -140,14 +140,14 @@ impl<'a, 'r, 'p, R: Wait + 'a> Scheduler for PoolHand<'a, 'r, 'p, R> {
     }
 
     fn unregister(&mut self, hold: &'a R, child: u16) -> PoolHeard {
-        match self.shared.kept().lock(hold).as_mut() {
+        match self.shared.locked(hold).as_mut() {
             Some(pool) => pool.unregister((), child),
             None => heard(Call::Unregistered, child, 0),
         }
     }
 
     fn request(&mut self, hold: &'a R, child: u16, count: u8) -> PoolHeard {
-        match self.shared.kept().lock(hold).as_mut() {
+        match self.shared.locked(hold).as_mut() {
             Some(pool) => pool.request((), child, count),
             None => heard(Call::Requested, child, count),
         }
@@ -172,7 +172,7 @@ impl<'a, 'r, 'p, R: Wait + 'a> Scheduler for PoolHand<'a, 'r, 'p, R> {
     }
 
     fn unblock(&mut self, hold: &'a R, c: PoolWork<'p>) -> Result<(), PoolWork<'p>> {
-        match self.shared.kept().lock(hold).as_mut() {
+        match self.shared.locked(hold).as_mut() {
             Some(pool) => {
                 let answer = pool.unblock((), c);
                 self.shared.show_ready(pool);
@@ -191,7 +191,7 @@ impl<'a, 'r, 'p, R: Wait + 'a> PoolHand<'a, 'r, 'p, R> {
         if !self.shared.has_ready() {
             return None;
         }
-        let mut kept = self.shared.kept().lock(rt);
+        let mut kept = self.shared.locked(rt);
         let ready = self.looks.take_ready(&mut kept);
         if let Some(pool) = kept.as_ref() {
             self.shared.show_ready(pool);
@@ -203,7 +203,7 @@ impl<'a, 'r, 'p, R: Wait + 'a> PoolHand<'a, 'r, 'p, R> {
     fn look(&mut self, rt: &R) -> Next<PoolWork<'p>>
         ensures { LooksBy self.old result self.new }
     {
-        let mut kept = self.shared.kept().lock(rt);
+        let mut kept = self.shared.locked(rt);
         let next = self.looks.enter(&mut kept);
         if let Some(pool) = kept.as_ref() {
             self.shared.show_ready(pool);

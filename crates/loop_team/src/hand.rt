@@ -11,7 +11,7 @@ use crate::team::{Team, TeamHeard, TeamWork, heard};
 use array_jobs::Piece;
 use claim_words::{ClaimSeat, ClaimTable, Claimed};
 use lithe_barrier::Arrival;
-use sched_api::{Call, Next, Scheduler};
+use sched_api::{Call, Next, Scheduler, take_lock};
 use std::alloc::AllocError;
 use std::marker::PhantomData;
 use std::sync::Wait;
@@ -115,7 +115,7 @@ impl<'a, 'r, 'p, R: Wait + 'a> TeamHand<'a, 'r, 'p, R> {
     /// It does nothing if the slot doesn't exist in the current phase, if its piece has come, or if the team was handed out.
     pub fn fail(&self, rt: &R, place: u8) {
         let shared = self.shared;
-        if let Some(team) = shared.lock.lock(rt).as_mut() {
+        if let Some(team) = take_lock(&shared.lock, rt).as_mut() {
             if shared.is_open(rt, place) {
                 shared.fail(team, place);
             }
@@ -129,7 +129,7 @@ impl<'a, 'r, 'p, R: Wait + 'a> TeamHand<'a, 'r, 'p, R> {
         if !shared.shows_over() {
             return false;
         }
-        match shared.lock.lock(rt).as_ref() {
+        match take_lock(&shared.lock, rt).as_ref() {
             Some(team) => team.is_over(),
             None => true,
         }
@@ -138,7 +138,7 @@ impl<'a, 'r, 'p, R: Wait + 'a> TeamHand<'a, 'r, 'p, R> {
     /// Whether the team is failed; false if the team was handed out.
     pub fn has_failed(&self, rt: &R) -> bool {
         let shared = self.shared;
-        match shared.lock.lock(rt).as_ref() {
+        match take_lock(&shared.lock, rt).as_ref() {
             Some(team) => team.has_failed(),
             None => false,
         }
@@ -149,7 +149,7 @@ impl<'a, 'r, 'p, R: Wait + 'a> TeamHand<'a, 'r, 'p, R> {
         ensures { IfSome result (λ team. IsOver team) }
     {
         let shared = self.shared;
-        let mut kept = shared.lock.lock(rt);
+        let mut kept = take_lock(&shared.lock, rt);
         match kept.as_ref() {
             Some(team) if team.is_over() => shared.shut(),
             Some(_) => return None,
@@ -256,7 +256,7 @@ impl<'a, 'r, 'p, R: Wait + 'a> Scheduler for TeamHand<'a, 'r, 'p, R> {
 
     fn unregister(&mut self, hold: &'a R, child: u16) -> TeamHeard {
         let shared = self.shared;
-        match shared.lock.lock(hold).as_mut() {
+        match take_lock(&shared.lock, hold).as_mut() {
             Some(team) => team.unregister((), child),
             None => heard(Call::Unregistered, child, 0),
         }
@@ -264,7 +264,7 @@ impl<'a, 'r, 'p, R: Wait + 'a> Scheduler for TeamHand<'a, 'r, 'p, R> {
 
     fn request(&mut self, hold: &'a R, child: u16, count: u8) -> TeamHeard {
         let shared = self.shared;
-        match shared.lock.lock(hold).as_mut() {
+        match take_lock(&shared.lock, hold).as_mut() {
             Some(team) => {
                 let heard = team.request((), child, count);
                 shared.count_change();
@@ -299,7 +299,7 @@ impl<'a, 'r, 'p, R: Wait + 'a> Scheduler for TeamHand<'a, 'r, 'p, R> {
 
     fn unblock(&mut self, hold: &'a R, c: TeamWork<'p>) -> Result<(), TeamWork<'p>> {
         let shared = self.shared;
-        match shared.lock.lock(hold).as_mut() {
+        match take_lock(&shared.lock, hold).as_mut() {
             Some(team) => shared.unblock(team, c),
             None => Err(c),
         }

@@ -11,7 +11,7 @@ use array_eval::Overlay;
 use array_jobs::{Job, Piece};
 use crossbeam_utils::Backoff;
 use lithe_barrier::Arrival;
-use sched_api::{Next, Scheduler};
+use sched_api::{Next, Scheduler, take_lock};
 use std::alloc::{AllocError, Global};
 use std::marker::Model;
 use std::sync::atomic::{AtomicBool, AtomicU64, Ordering};
@@ -139,7 +139,7 @@ impl<'p> SharedTeam<'p> {
     fn arrive_alone<R: Wait>(&self, rt: &R, piece: Piece<'p>) -> Result<Arrival<'p>, AllocError>
         ensures { IfOk result (λ arrival. GivesBack piece.entry arrival) }
     {
-        let mut kept = self.lock.lock(rt);
+        let mut kept = take_lock(&self.lock, rt);
         let Some(team) = kept.as_mut() else {
             return Ok(Arrival::Stranger(piece));
         };
@@ -159,7 +159,7 @@ impl<'p> SharedTeam<'p> {
         let place = piece.job.place;
         match self.stripes.get(usize::from(place % STRIPES)) {
             Some(stripe) if self.phase().is_some() => {
-                stripe.lock(rt).arrive(place / STRIPES, piece)
+                take_lock(stripe, rt).arrive(place / STRIPES, piece)
             }
             _ => Err(piece),
         }
@@ -168,14 +168,14 @@ impl<'p> SharedTeam<'p> {
     // Whether a stripe waits for the piece at this index, or the team has no stripes. The caller holds the team's lock.
     pub(crate) fn is_open<R: Wait>(&self, rt: &R, place: u8) -> bool {
         match self.stripes.get(usize::from(place % STRIPES)) {
-            Some(stripe) => stripe.lock(rt).is_open(place / STRIPES),
+            Some(stripe) => take_lock(stripe, rt).is_open(place / STRIPES),
             None => true,
         }
     }
 
     // Passes all pieces of a phase to the team, when each has come, and lays out the next phase. Returns the phase's writes.
     fn open_phase<R: Wait>(&self, rt: &R) -> Result<Option<Overlay>, AllocError> {
-        let mut kept = self.lock.lock(rt);
+        let mut kept = take_lock(&self.lock, rt);
         let Some(team) = kept.as_mut() else {
             return Ok(None);
         };
@@ -199,7 +199,7 @@ impl<'p> SharedTeam<'p> {
     // Passes all pieces that have come to the lock-protected team. Returns the phase's writes, if it opens.
     fn hand_on<R: Wait>(&self, rt: &R, team: &mut Team<'p>) -> Result<Option<Overlay>, AllocError> {
         for stripe in &self.stripes {
-            let written = hand_on(team, &mut *stripe.lock(rt))?;
+            let written = hand_on(team, &mut *take_lock(stripe, rt))?;
             if written.is_some() {
                 return Ok(written);
             }
@@ -210,7 +210,7 @@ impl<'p> SharedTeam<'p> {
     // Lays out the members of the next phase, and then shows its number. If an allocation fails, the team is failed.
     fn lay_out<R: Wait>(&self, rt: &R, team: &mut Team<'p>) -> Result<(), AllocError> {
         for slot in &self.slots {
-            *slot.lock(rt) = team.take_member();
+            *take_lock(slot, rt) = team.take_member();
         }
         self.left.store(self.slots.len() as u64, Ordering::SeqCst);
         let begun = self.begin_stripes(rt, team);
@@ -227,7 +227,7 @@ impl<'p> SharedTeam<'p> {
     // Opens all stripes for the pieces of the next phase.
     fn begin_stripes<R: Wait>(&self, rt: &R, team: &Team<'p>) -> Result<(), AllocError> {
         for stripe in &self.stripes {
-            stripe.lock(rt).begin(team)?;
+            take_lock(stripe, rt).begin(team)?;
         }
         Ok(())
     }
@@ -299,7 +299,7 @@ impl<'p> SharedTeam<'p> {
     pub(crate) fn find_ready<R: Wait>(&self, rt: &R) -> (Found, Option<Next<TeamWork<'p>>>)
         ensures { ReportsReady result.0 result.1 }
     {
-        match self.lock.lock(rt).as_mut() {
+        match take_lock(&self.lock, rt).as_mut() {
             Some(team) => {
                 let taken = team.take_ready();
                 self.show_ready(team);
@@ -320,7 +320,7 @@ impl<'p> SharedTeam<'p> {
     ) -> (Found, Option<Next<TeamWork<'p>>>)
         ensures { ReportsRest result.0 result.1 }
     {
-        match self.lock.lock(rt).as_mut() {
+        match take_lock(&self.lock, rt).as_mut() {
             Some(team) if self.phase() == Some(phase) => {
                 let next = team.enter(());
                 self.show_ready(team);
@@ -343,7 +343,7 @@ impl<'p> SharedTeam<'p> {
             × (job.place ≡ place)) }
     {
         taken_of(
-            &mut *self.slots.get(usize::from(place))?.lock(rt),
+            &mut *take_lock(self.slots.get(usize::from(place))?, rt),
             self.nested.site,
             phase,
             place,

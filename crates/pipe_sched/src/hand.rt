@@ -55,7 +55,7 @@ impl<'a, 'p, R: Wait + 'a> PipeHand<'a, 'p, R> {
         ensures { GivesBack piece.entry result }
     {
         let (member, phase) = (piece.job.place, piece.job.phase);
-        let mut kept = self.shared.kept().lock(rt);
+        let mut kept = self.shared.locked(rt);
         let answer = under_lock::deposit(&mut kept, piece);
         if matches!(&answer, Deposit::Kept) {
             self.shared.shown().show_filled(&kept, member, phase);
@@ -68,7 +68,7 @@ impl<'a, 'p, R: Wait + 'a> PipeHand<'a, 'p, R> {
     ///
     /// It does nothing if the piece isn't handed out and isn't due, if it is filled or failed, or if the pipe was handed out.
     pub fn fail(&self, rt: &R, member: u8, phase: u8) {
-        let mut kept = self.shared.kept().lock(rt);
+        let mut kept = self.shared.locked(rt);
         under_lock::fail(&mut kept, member, phase);
         self.shared.shown().show_full(&kept);
     }
@@ -79,7 +79,7 @@ impl<'a, 'p, R: Wait + 'a> PipeHand<'a, 'p, R> {
         if !self.shared.shown().is_full() {
             return false;
         }
-        match self.shared.kept().lock(rt).as_ref() {
+        match self.shared.locked(rt).as_ref() {
             Some(pipe) => pipe.is_full(),
             None => true,
         }
@@ -87,7 +87,7 @@ impl<'a, 'p, R: Wait + 'a> PipeHand<'a, 'p, R> {
 
     /// Whether some piece of the pipe is failed; false if the pipe was handed out.
     pub fn has_failed(&self, rt: &R) -> bool {
-        match self.shared.kept().lock(rt).as_ref() {
+        match self.shared.locked(rt).as_ref() {
             Some(pipe) => pipe.has_failed(),
             None => false,
         }
@@ -97,7 +97,7 @@ impl<'a, 'p, R: Wait + 'a> PipeHand<'a, 'p, R> {
     pub fn take_out(&self, rt: &R) -> Option<Pipe<'p>>
         ensures { IfSome result (λ pipe. IsFull pipe.state) }
     {
-        let mut kept = self.shared.kept().lock(rt);
+        let mut kept = self.shared.locked(rt);
         under_lock::take_full(&mut kept)
     }
 
@@ -105,7 +105,7 @@ impl<'a, 'p, R: Wait + 'a> PipeHand<'a, 'p, R> {
     fn look(&mut self, rt: &R) -> Next<PipeWork<'p>>
         ensures { AnswersHand self.old result self.new }
     {
-        let mut kept = self.shared.kept().lock(rt);
+        let mut kept = self.shared.locked(rt);
         let next = self.looks.enter(&mut kept);
         self.shared.shown().show_given(&kept, &next);
         next
@@ -137,12 +137,12 @@ impl<'a, 'p, R: Wait + 'a> Scheduler for PipeHand<'a, 'p, R> {
     }
 
     fn unregister(&mut self, hold: &'a R, child: u16) -> PipeHeard {
-        let mut kept = self.shared.kept().lock(hold);
+        let mut kept = self.shared.locked(hold);
         under_lock::unregister(&mut kept, child)
     }
 
     fn request(&mut self, hold: &'a R, child: u16, count: u8) -> PipeHeard {
-        let mut kept = self.shared.kept().lock(hold);
+        let mut kept = self.shared.locked(hold);
         let heard = under_lock::request(&mut kept, child, count);
         self.shared.shown().add_offers(count);
         heard
@@ -174,7 +174,7 @@ impl<'a, 'p, R: Wait + 'a> Scheduler for PipeHand<'a, 'p, R> {
     }
 
     fn unblock(&mut self, hold: &'a R, c: PipeWork<'p>) -> Result<(), PipeWork<'p>> {
-        let mut kept = self.shared.kept().lock(hold);
+        let mut kept = self.shared.locked(hold);
         under_lock::unblock(&mut kept, c)?;
         self.shared.shown().add_offers(1);
         Ok(())

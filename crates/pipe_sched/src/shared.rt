@@ -3,9 +3,10 @@ ghost use Rattle.std.specs.Prelude.{◌≡◌, IfOk};
 
 use crate::pipe::Pipe;
 use crate::shown::Shown;
+use sched_api::take_lock;
 use std::alloc::{AllocError, Global};
 use std::marker::Model;
-use std::sync::Mutex;
+use std::sync::{Mutex, MutexGuard, Wait};
 use step_eval::Nested;
 
 /// A pipe that harts share until it is handed out. Beside the lock are its construct, which never changes, and the state that
@@ -59,9 +60,9 @@ impl<'p> SharedPipe<'p> {
         &self.nested
     }
 
-    // The lock, with the pipe under it until that is handed out.
-    pub(crate) fn kept(&self) -> &Mutex<Option<Pipe<'p>>> {
-        &self.lock
+    // Takes the lock, with the pipe under it until that is handed out.
+    pub(crate) fn locked<R: Wait>(&self, rt: &R) -> MutexGuard<'_, Option<Pipe<'p>>> {
+        take_lock(&self.lock, rt)
     }
 
     // The state that the pipe showed at the end of the last call under the lock.

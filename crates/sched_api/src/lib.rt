@@ -13,12 +13,14 @@
 
 mod agenda;
 mod hearing;
+mod lock;
 mod primitives;
 mod scheduler;
 mod wishes;
 
 pub use agenda::{Agenda, MOST_WISHES};
 pub use hearing::{Call, Heard, Hearing, Told};
+pub use lock::take_lock;
 pub use primitives::{
     sched_enter, sched_reenter, sched_register, sched_request, sched_unregister, sched_yield,
 };
