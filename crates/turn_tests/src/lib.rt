@@ -10,6 +10,8 @@ mod constructs;
 #[cfg(test)]
 mod family;
 #[cfg(test)]
+mod locks;
+#[cfg(test)]
 mod siblings;
 #[cfg(test)]
 mod steps;
