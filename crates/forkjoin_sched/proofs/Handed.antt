@@ -1,9 +1,9 @@
 -- Pieces that are put into a book one by one, the last first.
-use Rattle.std.proofs.Common.{◌≡◌, ◌↔◌, ◌<◌, List, [], ◌∷◌, ◌++◌, length, Some, None, append_assoc, append-nil, IsTrue, Bool, sym, ap, subst, ◌∙◌, refl, arith}
+use Rattle.std.proofs.Common.{◌≡◌, ◌↔◌, ◌<◌, List, [], ◌∷◌, ◌++◌, length, Some, append_assoc, append-nil, IsTrue, Bool, sym, ap, subst, ◌∙◌, refl, arith}
 use Rattle.std.proofs.lemmas.List.{length_push}
 use Rattle.array_meaning.specs.Stores.{Store}
 use Rattle.array_jobs.specs.PieceParts.{PieceParts}
-use Rattle.join_book.specs.Books.{BookParts, Puts}
+use Rattle.join_book.specs.Books.{Puts}
 use Rattle.join_book.specs.declared.book.Deposit.{Deposit}
 use Rattle.forkjoin_sched.specs.Pools.{PoolParts, StartFrom, start_of}
 use Rattle.forkjoin_sched.specs.Batches.{BatchParts, Takes, PutsAll, KnowsAfter}

@@ -1,4 +1,4 @@
-use Rattle.std.proofs.Common.{ℕ, length}
+use Rattle.std.proofs.Common.{length}
 use Rattle.forkjoin_sched.proofs.Handed.{HasPut}
 use Rattle.forkjoin_sched.proofs.batch.PieceBatch.put_into.Given as goal
 
