@@ -2,18 +2,16 @@
 ghost use Rattle.std.specs.Prelude.{◌≡◌, ◌<◌, ◌≤◌, ◌⊎◌, IfOk, IfErr, vec_len, alloc_error, Err};
 ghost use Rattle.std.specs.List.{All};
 ghost use Rattle.open_board.specs.Of.{IsOf};
-ghost use Rattle.task_table.specs.Slots.{Ends};
-ghost use Rattle.task_crew.specs.Runs.{RunFails, IsSeatOf};
+ghost use Rattle.task_crew.specs.Runs.{RunFails};
 
 use crate::error::RunError;
-use crate::run::{FourMore, MOST_HARTS, go_home, run_crew_with};
+use crate::run::{FourMore, MOST_HARTS, run_four_more};
 use open_board::{OpenBoard, OpenSeat};
-use std::alloc::{AllocError, Global};
+use std::alloc::Global;
 use std::marker::Brand;
 use std::sync::Wait;
 use std::thread::Threads;
-use task_sites::{Crew, Levels, Naming, NoLevel, Observer, Unobserved};
-use task_table::Outcome;
+use task_sites::{Naming, NoLevel, Observer, Unobserved};
 use tasks::Task;
 
 // The most levels of these runs.
@@ -87,13 +85,13 @@ where
         return Err(RunError::LevelCount(levels));
     }
     match OpenBoard::new(alloc, harts, levels.max(1)) {
-        Ok((board, seats)) => run_named::<Brand, T, R>(rt, alloc, board, seats, levels, task),
+        Ok((board, seats)) => run_eight::<Brand, T, R>(rt, alloc, board, seats, levels, task),
         Err(error) => Err(RunError::Task(T::Error::from(error))),
     }
 }
 
-// Runs a task on the harts of a board, and ends the board.
-fn run_named<B: Naming + Send + Sync, T: Task + Send, R: Threads + Observer + Sync>(
+// Runs a task on the harts of a board, with at most eight levels, and ends the board.
+fn run_eight<B, T, R>(
     rt: &R,
     alloc: Global,
     board: OpenBoard,
@@ -102,6 +100,9 @@ fn run_named<B: Naming + Send + Sync, T: Task + Send, R: Threads + Observer + Sy
     task: T,
 ) -> Result<T::Output, RunError<T::Error>>
 where
+    B: Naming + Send + Sync,
+    T: Task + Send,
+    R: Threads + Observer + Sync,
     T::Output: Send,
     T::Error: Send,
     requires board { board.table.shared.table_id ≡ B.table }
@@ -114,73 +115,5 @@ where
     ensures error { IfErr result
         (RunFails 8 board.size.harts levels (T.fails task) (T.Error.from_gives alloc_error)) }
 {
-    let crew = match Crew::<T, B>::new(alloc, board) {
-        Ok(crew) => crew,
-        Err(error) => return Err(RunError::Task(T::Error::from(error))),
-    };
-    let (outcome, seats) = match run_crew(rt, alloc, &crew, seats, levels, task) {
-        Ok(ran) => ran,
-        Err(error) => return Err(RunError::Task(T::Error::from(error))),
-    };
-    if let Err(why) = go_home(crew.into_board(), seats) {
-        return Err(RunError::NotEnded(why));
-    }
-    match outcome {
-        Ok(output) => Ok(output),
-        Err(error) => Err(RunError::Task(error)),
-    }
-}
-
-// Runs a task on the first of the harts, while the others are lent to the sites inside it. Returns the outcome and the seats.
-fn run_crew<B, T, R>(
-    rt: &R,
-    alloc: Global,
-    crew: &Crew<T, B>,
-    seats: Vec<OpenSeat>,
-    levels: u8,
-    task: T,
-) -> Result<(Outcome<T>, Vec<OpenSeat>), AllocError>
-where
-    B: Naming + Send + Sync,
-    T: Task + Send,
-    R: Threads + Observer + Sync,
-    T::Output: Send,
-    T::Error: Send,
-    requires seats { All (IsSeatOf B.table B.size) seats.items }
-    requires some { 1 ≤ vec_len seats }
-    requires depth { T.depth task ≤ levels }
-    requires levels { levels ≤ 8 }
-    ensures outcome { IfOk result
-        (λ r. Ends T.gives T.fails (T.Error.from_gives alloc_error) task r.0) }
-    ensures seats { IfOk result (λ r. All (IsSeatOf B.table B.size) r.1.items) }
-{
-    run_over_four::<B, T, R, FourMore<NoLevel>>(rt, alloc, crew, seats, levels, task)
-}
-
-// The same, with four levels more than `L`.
-fn run_over_four<B, T, R, L>(
-    rt: &R,
-    alloc: Global,
-    crew: &Crew<T, B>,
-    seats: Vec<OpenSeat>,
-    levels: u8,
-    task: T,
-) -> Result<(Outcome<T>, Vec<OpenSeat>), AllocError>
-where
-    B: Naming + Send + Sync,
-    T: Task + Send,
-    R: Threads + Observer + Sync,
-    L: Levels<T, R, B> + Send + Sync,
-    T::Output: Send,
-    T::Error: Send,
-    requires count { 4 ≤ L.count }
-    requires seats { All (IsSeatOf B.table B.size) seats.items }
-    requires some { 1 ≤ vec_len seats }
-    requires depth { T.depth task ≤ levels }
-    requires levels { levels ≤ 8 }
-    ensures outcome { IfOk result
-        (λ r. Ends T.gives T.fails (T.Error.from_gives alloc_error) task r.0) }
-    ensures seats { IfOk result (λ r. All (IsSeatOf B.table B.size) r.1.items) }
-{
-    run_crew_with::<B, T, R, FourMore<L>>(rt, alloc, crew, seats, levels, task)
+    run_four_more::<B, T, R, FourMore<NoLevel>>(rt, alloc, board, seats, levels, task)
 }

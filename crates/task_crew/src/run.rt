@@ -1,5 +1,5 @@
 //! The harts of a run.
-ghost use Rattle.std.specs.Prelude.{◌≡◌, ◌<◌, ◌≤◌, ◌⊎◌, IfOk, IfErr, vec_len, alloc_error, Err, []};
+ghost use Rattle.std.specs.Prelude.{◌≡◌, ◌<◌, ◌≤◌, ◌+◌, ◌⊎◌, ℕ, IfOk, IfErr, vec_len, alloc_error, Err, []};
 ghost use Rattle.std.specs.List.{All};
 ghost use Rattle.open_board.specs.Of.{IsOf};
 ghost use Rattle.task_table.specs.Slots.{Ends};
@@ -103,13 +103,13 @@ where
         return Err(RunError::LevelCount(levels));
     }
     match OpenBoard::new(alloc, harts, levels.max(1)) {
-        Ok((board, seats)) => run_named::<Brand, T, R>(rt, alloc, board, seats, levels, task),
+        Ok((board, seats)) => run_sixteen::<Brand, T, R>(rt, alloc, board, seats, levels, task),
         Err(error) => Err(RunError::Task(T::Error::from(error))),
     }
 }
 
-// Runs a task on the harts of a board, and ends the board.
-fn run_named<B: Naming + Send + Sync, T: Task + Send, R: Threads + Observer + Sync>(
+// Runs a task on the harts of a board, with at most sixteen levels, and ends the board.
+fn run_sixteen<B, T, R>(
     rt: &R,
     alloc: Global,
     board: OpenBoard,
@@ -118,6 +118,9 @@ fn run_named<B: Naming + Send + Sync, T: Task + Send, R: Threads + Observer + Sy
     task: T,
 ) -> Result<T::Output, RunError<T::Error>>
 where
+    B: Naming + Send + Sync,
+    T: Task + Send,
+    R: Threads + Observer + Sync,
     T::Output: Send,
     T::Error: Send,
     requires board { board.table.shared.table_id ≡ B.table }
@@ -130,11 +133,127 @@ where
     ensures error { IfErr result
         (RunFails 16 board.size.harts levels (T.fails task) (T.Error.from_gives alloc_error)) }
 {
+    run_twelve_more::<B, T, R, FourMore<NoLevel>>(rt, alloc, board, seats, levels, task)
+}
+
+// The same, with at most twelve levels more than `L`.
+fn run_twelve_more<B, T, R, L>(
+    rt: &R,
+    alloc: Global,
+    board: OpenBoard,
+    seats: Vec<OpenSeat>,
+    levels: u8,
+    task: T,
+) -> Result<T::Output, RunError<T::Error>>
+where
+    B: Naming + Send + Sync,
+    T: Task + Send,
+    R: Threads + Observer + Sync,
+    L: Levels<T, R, B> + Send + Sync,
+    T::Output: Send,
+    T::Error: Send,
+    requires board { board.table.shared.table_id ≡ B.table }
+    requires size { board.size ≡ B.size }
+    requires seats { All (IsOf board) seats.items }
+    requires some { 1 ≤ vec_len seats }
+    requires depth { T.depth task ≤ levels }
+    requires levels { levels ≤ 12 + L.count }
+    ensures output { IfOk result (λ output. T.gives task output) }
+    ensures error { (most : ℕ) → IfErr result
+        (RunFails most board.size.harts levels (T.fails task) (T.Error.from_gives alloc_error)) }
+{
+    run_eight_more::<B, T, R, FourMore<L>>(rt, alloc, board, seats, levels, task)
+}
+
+// The same, with at most eight levels more than `L`.
+fn run_eight_more<B, T, R, L>(
+    rt: &R,
+    alloc: Global,
+    board: OpenBoard,
+    seats: Vec<OpenSeat>,
+    levels: u8,
+    task: T,
+) -> Result<T::Output, RunError<T::Error>>
+where
+    B: Naming + Send + Sync,
+    T: Task + Send,
+    R: Threads + Observer + Sync,
+    L: Levels<T, R, B> + Send + Sync,
+    T::Output: Send,
+    T::Error: Send,
+    requires board { board.table.shared.table_id ≡ B.table }
+    requires size { board.size ≡ B.size }
+    requires seats { All (IsOf board) seats.items }
+    requires some { 1 ≤ vec_len seats }
+    requires depth { T.depth task ≤ levels }
+    requires levels { levels ≤ 8 + L.count }
+    ensures output { IfOk result (λ output. T.gives task output) }
+    ensures error { (most : ℕ) → IfErr result
+        (RunFails most board.size.harts levels (T.fails task) (T.Error.from_gives alloc_error)) }
+{
+    run_four_more::<B, T, R, FourMore<L>>(rt, alloc, board, seats, levels, task)
+}
+
+/// The same, with at most four levels more than `L`.
+pub(crate) fn run_four_more<B, T, R, L>(
+    rt: &R,
+    alloc: Global,
+    board: OpenBoard,
+    seats: Vec<OpenSeat>,
+    levels: u8,
+    task: T,
+) -> Result<T::Output, RunError<T::Error>>
+where
+    B: Naming + Send + Sync,
+    T: Task + Send,
+    R: Threads + Observer + Sync,
+    L: Levels<T, R, B> + Send + Sync,
+    T::Output: Send,
+    T::Error: Send,
+    requires board { board.table.shared.table_id ≡ B.table }
+    requires size { board.size ≡ B.size }
+    requires seats { All (IsOf board) seats.items }
+    requires some { 1 ≤ vec_len seats }
+    requires depth { T.depth task ≤ levels }
+    requires levels { levels ≤ 4 + L.count }
+    ensures output { IfOk result (λ output. T.gives task output) }
+    ensures error { (most : ℕ) → IfErr result
+        (RunFails most board.size.harts levels (T.fails task) (T.Error.from_gives alloc_error)) }
+{
+    run_named::<B, T, R, FourMore<L>>(rt, alloc, board, seats, levels, task)
+}
+
+// Runs a task on the harts of a board, with the levels of `L`, and ends the board.
+fn run_named<B, T, R, L>(
+    rt: &R,
+    alloc: Global,
+    board: OpenBoard,
+    seats: Vec<OpenSeat>,
+    levels: u8,
+    task: T,
+) -> Result<T::Output, RunError<T::Error>>
+where
+    B: Naming + Send + Sync,
+    T: Task + Send,
+    R: Threads + Observer + Sync,
+    L: Levels<T, R, B> + Send + Sync,
+    T::Output: Send,
+    T::Error: Send,
+    requires board { board.table.shared.table_id ≡ B.table }
+    requires size { board.size ≡ B.size }
+    requires seats { All (IsOf board) seats.items }
+    requires some { 1 ≤ vec_len seats }
+    requires depth { T.depth task ≤ levels }
+    requires levels { levels ≤ L.count }
+    ensures output { IfOk result (λ output. T.gives task output) }
+    ensures error { (most : ℕ) → IfErr result
+        (RunFails most board.size.harts levels (T.fails task) (T.Error.from_gives alloc_error)) }
+{
     let crew = match Crew::<T, B>::new(alloc, board) {
         Ok(crew) => crew,
         Err(error) => return Err(RunError::Task(T::Error::from(error))),
     };
-    let (outcome, seats) = match run_crew(rt, alloc, &crew, seats, levels, task) {
+    let (outcome, seats) = match run_crew::<B, T, R, L>(rt, alloc, &crew, seats, levels, task) {
         Ok(ran) => ran,
         Err(error) => return Err(RunError::Task(T::Error::from(error))),
     };
@@ -147,8 +266,8 @@ where
     }
 }
 
-/// Ends a board: all harts are at the base again.
-pub(crate) fn go_home(board: OpenBoard, seats: Vec<OpenSeat>) -> Result<(), NotEnded>
+// Ends a board: all harts are at the base again.
+fn go_home(board: OpenBoard, seats: Vec<OpenSeat>) -> Result<(), NotEnded>
     requires { All (IsOf board) seats.items }
     ensures ended { IfOk result (λ _. AllAreHome board.size seats.items) }
     ensures refused { IfErr result (IsReason board.size.harts) }
@@ -167,117 +286,7 @@ pub(crate) fn go_home(board: OpenBoard, seats: Vec<OpenSeat>) -> Result<(), NotE
 }
 
 // Runs a task on the first of the harts, while the others are lent to the sites inside it. Returns the outcome and the seats.
-fn run_crew<B, T, R>(
-    rt: &R,
-    alloc: Global,
-    crew: &Crew<T, B>,
-    seats: Vec<OpenSeat>,
-    levels: u8,
-    task: T,
-) -> Result<(Outcome<T>, Vec<OpenSeat>), AllocError>
-where
-    B: Naming + Send + Sync,
-    T: Task + Send,
-    R: Threads + Observer + Sync,
-    T::Output: Send,
-    T::Error: Send,
-    requires seats { All (IsSeatOf B.table B.size) seats.items }
-    requires some { 1 ≤ vec_len seats }
-    requires depth { T.depth task ≤ levels }
-    requires levels { levels ≤ 16 }
-    ensures outcome { IfOk result
-        (λ r. Ends T.gives T.fails (T.Error.from_gives alloc_error) task r.0) }
-    ensures seats { IfOk result (λ r. All (IsSeatOf B.table B.size) r.1.items) }
-{
-    run_over_four::<B, T, R, FourMore<NoLevel>>(rt, alloc, crew, seats, levels, task)
-}
-
-// The same, with twelve levels more than `L`.
-fn run_over_four<B, T, R, L>(
-    rt: &R,
-    alloc: Global,
-    crew: &Crew<T, B>,
-    seats: Vec<OpenSeat>,
-    levels: u8,
-    task: T,
-) -> Result<(Outcome<T>, Vec<OpenSeat>), AllocError>
-where
-    B: Naming + Send + Sync,
-    T: Task + Send,
-    R: Threads + Observer + Sync,
-    L: Levels<T, R, B> + Send + Sync,
-    T::Output: Send,
-    T::Error: Send,
-    requires count { 4 ≤ L.count }
-    requires seats { All (IsSeatOf B.table B.size) seats.items }
-    requires some { 1 ≤ vec_len seats }
-    requires depth { T.depth task ≤ levels }
-    requires levels { levels ≤ 16 }
-    ensures outcome { IfOk result
-        (λ r. Ends T.gives T.fails (T.Error.from_gives alloc_error) task r.0) }
-    ensures seats { IfOk result (λ r. All (IsSeatOf B.table B.size) r.1.items) }
-{
-    run_over_eight::<B, T, R, FourMore<L>>(rt, alloc, crew, seats, levels, task)
-}
-
-// The same, with eight levels more than `L`.
-fn run_over_eight<B, T, R, L>(
-    rt: &R,
-    alloc: Global,
-    crew: &Crew<T, B>,
-    seats: Vec<OpenSeat>,
-    levels: u8,
-    task: T,
-) -> Result<(Outcome<T>, Vec<OpenSeat>), AllocError>
-where
-    B: Naming + Send + Sync,
-    T: Task + Send,
-    R: Threads + Observer + Sync,
-    L: Levels<T, R, B> + Send + Sync,
-    T::Output: Send,
-    T::Error: Send,
-    requires count { 8 ≤ L.count }
-    requires seats { All (IsSeatOf B.table B.size) seats.items }
-    requires some { 1 ≤ vec_len seats }
-    requires depth { T.depth task ≤ levels }
-    requires levels { levels ≤ 16 }
-    ensures outcome { IfOk result
-        (λ r. Ends T.gives T.fails (T.Error.from_gives alloc_error) task r.0) }
-    ensures seats { IfOk result (λ r. All (IsSeatOf B.table B.size) r.1.items) }
-{
-    run_over_twelve::<B, T, R, FourMore<L>>(rt, alloc, crew, seats, levels, task)
-}
-
-// The same, with four levels more than `L`.
-fn run_over_twelve<B, T, R, L>(
-    rt: &R,
-    alloc: Global,
-    crew: &Crew<T, B>,
-    seats: Vec<OpenSeat>,
-    levels: u8,
-    task: T,
-) -> Result<(Outcome<T>, Vec<OpenSeat>), AllocError>
-where
-    B: Naming + Send + Sync,
-    T: Task + Send,
-    R: Threads + Observer + Sync,
-    L: Levels<T, R, B> + Send + Sync,
-    T::Output: Send,
-    T::Error: Send,
-    requires count { 12 ≤ L.count }
-    requires seats { All (IsSeatOf B.table B.size) seats.items }
-    requires some { 1 ≤ vec_len seats }
-    requires depth { T.depth task ≤ levels }
-    requires levels { levels ≤ 16 }
-    ensures outcome { IfOk result
-        (λ r. Ends T.gives T.fails (T.Error.from_gives alloc_error) task r.0) }
-    ensures seats { IfOk result (λ r. All (IsSeatOf B.table B.size) r.1.items) }
-{
-    run_crew_with::<B, T, R, FourMore<L>>(rt, alloc, crew, seats, levels, task)
-}
-
-/// Runs a task as `run_crew` does, with the levels of `L`.
-pub(crate) fn run_crew_with<B, T, R, L>(
+fn run_crew<B, T, R, L>(
     rt: &R,
     alloc: Global,
     crew: &Crew<T, B>,

@@ -1,4 +1,4 @@
 use Rattle.task_crew.proofs.run.run_observed.Given as goal
 
-abbrev pub ghosts-run_named : goal.ghosts-run_named
-ghosts-run_named g a = record { table = a.board.table.shared.table_id; size = a.board.size }
+abbrev pub ghosts-run_sixteen : goal.ghosts-run_sixteen
+ghosts-run_sixteen g a = record { table = a.board.table.shared.table_id; size = a.board.size }
