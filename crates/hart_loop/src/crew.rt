@@ -43,7 +43,7 @@ use std::thread::Threads;
 pub fn run_ports<
     'p,
     R: Threads + Wait + Sync,
-    F: Fn(u8, &Job<'p>) + Sync,
+    F: Fn(u8, u16, u8, u8) + Sync,
     P: PatientPort<Hold = ()> + Send + Drop,
 >(
     run: Run<'_, R, F>,
@@ -120,7 +120,7 @@ fn settle_all(words: Claims, rows: Vec<HartRows>, claims: Vec<ClaimSeat>)
 fn run_lent<
     'p,
     R: Threads + Wait + Sync,
-    F: Fn(u8, &Job<'p>) + Sync,
+    F: Fn(u8, u16, u8, u8) + Sync,
     P: PatientPort<Hold = ()> + Send + Drop,
 >(
     run: Run<'_, R, F>,
@@ -200,7 +200,7 @@ fn run_all<
     'x,
     'p: 'x,
     R: Threads + Wait + Sync,
-    F: Fn(u8, &Job<'p>) + Sync,
+    F: Fn(u8, u16, u8, u8) + Sync,
     P: PatientPort<Hold = ()> + Send,
 >(
     run: Run<'_, R, F>,

@@ -49,7 +49,7 @@ impl<'a, 'p, P, S: Drop> Hart<'a, 'p, P, S> {
 ///
 /// It allocates what `run_piece` and `serve` of `hart_work` allocate. If an allocation for the hart's job fails, `hart.piece` is
 /// `None`.
-pub fn work<'a, 'p, P: PatientPort, R: Wait, S: InDirectory<'p>, F: Fn(u8, &Job<'p>)>(
+pub fn work<'a, 'p, P: PatientPort, R: Wait, S: InDirectory<'p>, F: Fn(u8, u16, u8, u8)>(
     run: Run<'_, R, F>,
     hold: P::Hold,
     hart: &mut Hart<'a, 'p, P, S>,
@@ -66,13 +66,25 @@ pub fn work<'a, 'p, P: PatientPort, R: Wait, S: InDirectory<'p>, F: Fn(u8, &Job<
         }
         None => {
             let mut base: HartSite<'a, 'p, S> = HartSite::base(hart.base);
-            serve(run, &mut hart.port, hold, &mut hart.sites, &mut base);
+            let pass = run.pass;
+            serve(
+                Run {
+                    rt: run.rt,
+                    alloc: run.alloc,
+                    tree: run.tree,
+                    pass: &|hart, job: &Job| pass(hart, job.site, job.phase, job.place),
+                },
+                &mut hart.port,
+                hold,
+                &mut hart.sites,
+                &mut base,
+            );
         }
     }
 }
 
 // Runs the body, shuts the base, and waits until each top site is gone.
-fn run_body<'a, 'p, P: PatientPort, R: Wait, S: InDirectory<'p>, F: Fn(u8, &Job<'p>)>(
+fn run_body<'a, 'p, P: PatientPort, R: Wait, S: InDirectory<'p>, F: Fn(u8, u16, u8, u8)>(
     run: Run<'_, R, F>,
     hold: P::Hold,
     hart: &mut Hart<'a, 'p, P, S>,
@@ -86,7 +98,20 @@ fn run_body<'a, 'p, P: PatientPort, R: Wait, S: InDirectory<'p>, F: Fn(u8, &Job<
     ensures piece { IfOk result (λ piece. piece.job ≡ job.entry) }
 {
     let mut base: HartSite<'a, 'p, S> = HartSite::base(hart.base);
-    let piece = run_piece(run, &mut hart.port, hold, &mut hart.sites, &mut base, job);
+    let pass = run.pass;
+    let piece = run_piece(
+        Run {
+            rt: run.rt,
+            alloc: run.alloc,
+            tree: run.tree,
+            pass: &|hart, job: &Job| pass(hart, job.site, job.phase, job.place),
+        },
+        &mut hart.port,
+        hold,
+        &mut hart.sites,
+        &mut base,
+        job,
+    );
     sweep_if(run.tree, &mut hart.port, hold, piece.is_err());
     hart.base.shut(run.rt);
     finish_base(run.tree, &mut hart.port, hold);

@@ -9,7 +9,6 @@ ghost use Rattle.lent_board.specs.Of.{IsOf};
 use crate::crew::run_ports;
 use crate::members::TeamMode;
 use array_eval::Store;
-use array_jobs::Job;
 use board_rule::Laid;
 use disjoint_check::Accepted;
 use hart_work::Run;
@@ -30,9 +29,9 @@ use std::thread::Threads;
 /// # Memory
 ///
 /// It allocates the board, its journal, and as `run_ports` does.
-pub fn on_board<'p, L: Laid + Sync, R: Threads + Wait + Sync, F: Fn(u8, &Job<'p>) + Sync>(
+pub fn on_board<L: Laid + Sync, R: Threads + Wait + Sync, F: Fn(u8, u16, u8, u8) + Sync>(
     run: Run<'_, R, F>,
-    accepted: &Accepted<'p>,
+    accepted: &Accepted<'_>,
     members: TeamMode,
 ) -> Result<(Store, Closed<L>), AllocError>
     requires callable { F.IsAlwaysCallable run.pass.now }

@@ -7,7 +7,6 @@ ghost use Rattle.lone_hart.specs.Journals.{entries_in, IsListed};
 
 use crate::crew::run_ports;
 use crate::members::TeamMode;
-use array_jobs::Job;
 use disjoint_check::Accepted;
 use hart_port::PlainPort;
 use hart_work::Run;
@@ -27,9 +26,9 @@ use std::thread::Threads;
 /// # Memory
 ///
 /// It allocates the port and its journal, and as `run_ports` does.
-pub fn on_plain_port<'p, R: Threads + Wait + Sync, F: Fn(u8, &Job<'p>) + Sync>(
+pub fn on_plain_port<R: Threads + Wait + Sync, F: Fn(u8, u16, u8, u8) + Sync>(
     run: Run<'_, R, F>,
-    accepted: &Accepted<'p>,
+    accepted: &Accepted<'_>,
     members: TeamMode,
 ) -> Result<Outcome, AllocError>
     requires callable { F.IsAlwaysCallable run.pass.now }

@@ -11,7 +11,6 @@ ghost use Rattle.lone_hart.specs.Journals.{entries_in, IsListed, IsBoard, IsWide
 use crate::members::TeamMode;
 use crate::on_board::on_board;
 use crate::on_plain_port::on_plain_port;
-use array_jobs::Job;
 use disjoint_check::Accepted;
 use entered_sites::entered_by;
 use hart_work::Run;
@@ -120,7 +119,7 @@ fn run_tested<R: Threads + Wait + Sync, G: Gate>(
     ensures short { IfOk result (λ outcome. length (entries_in outcome.journal) ≤ most_entries) }
 {
     let tree = SiteTree::new(alloc, accepted.plan())?;
-    let pass = |hart: u8, job: &Job| gate.passed(rt, hart, job.site, job.phase, job.place);
+    let pass = |hart, site, phase, place| gate.passed(rt, hart, site, phase, place);
     let run = Run {
         rt,
         alloc,
@@ -137,9 +136,9 @@ fn run_tested<R: Threads + Wait + Sync, G: Gate>(
 }
 
 // A run of the program, by ports of its own.
-fn run_once<'p, R: Threads + Wait + Sync, F: Fn(u8, &Job<'p>) + Sync>(
+fn run_once<R: Threads + Wait + Sync, F: Fn(u8, u16, u8, u8) + Sync>(
     run: Run<'_, R, F>,
-    accepted: &Accepted<'p>,
+    accepted: &Accepted<'_>,
     members: TeamMode,
 ) -> Result<Outcome, AllocError>
     requires callable { F.IsAlwaysCallable run.pass.now }

@@ -86,7 +86,7 @@ fn crew<'x, 'p: 'x, R: Threads + Wait + Sync>(
 }
 
 // Runs each hart on a thread, the last of them on the current one.
-fn run_each<'x, 'p: 'x, R: Threads + Wait + Sync, F: Fn(u8, &Job<'p>) + Sync>(
+fn run_each<'x, 'p: 'x, R: Threads + Wait + Sync, F: Fn(u8, u16, u8, u8) + Sync>(
     run: Run<'x, R, F>,
     harts: &mut [Hart<'x, 'p, WaitingPort<'x, LockedPort<'x, R>, R>, SharedSite<'p>>],
 )
@@ -118,7 +118,7 @@ fn run_body<'x, 'p: 'x, R: Threads + Wait + Sync>(
     requires { accepted.now.plan.harts ≤ 4 }
 {
     let tree = SiteTree::new(alloc, accepted.plan())?;
-    let pass = |_: u8, _: &Job| {};
+    let pass = |_, _, _, _| {};
     let run = Run {
         rt,
         alloc,
@@ -270,7 +270,7 @@ fn run_whole<'x, 'p: 'x, R: Threads + Wait + Sync>(
         hart_local,
         Some(job),
     )?;
-    let pass = |_: u8, _: &Job| {};
+    let pass = |_, _, _, _| {};
     let run = Run {
         rt,
         alloc,
