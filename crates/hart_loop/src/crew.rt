@@ -147,7 +147,7 @@ fn run_lent<
     let cells = cells(run.alloc, sites)?;
     let job = body_job(run.alloc, accepted.program())?;
     let mut harts = crew(run.alloc, members, words, crew_parts, &base, &cells)?;
-    let piece = run_all(run, harts.as_mut_slice(), job);
+    let piece = run_crew(run, harts.as_mut_slice(), job);
     Ok((piece, crew_parts_of(run.alloc, harts)?))
 }
 
@@ -194,9 +194,8 @@ fn crew<'x, 'p: 'x, P: Drop>(
     Ok(harts)
 }
 
-// Runs each hart on a thread, the first of them with this job, and blocks until all are back. Returns the job's piece, unless an
-// allocation failed.
-fn run_all<
+// Runs each hart, the first of them with this job. Returns the job's piece, unless an allocation failed.
+fn run_crew<
     'x,
     'p: 'x,
     R: Threads + Wait + Sync,
@@ -214,14 +213,43 @@ fn run_all<
     ensures piece { IfSome result (λ piece. piece.job ≡ job.entry) }
 {
     harts[0].job = Some(job);
-    // Why the first is last in the list: it runs on the current thread. If no thread can be made, the others run after it, and
-    // end immediately, since it has shut the base.
+    run_all(run, harts);
+    harts[0].piece.take()
+}
+
+// Runs each hart, and blocks until all are back. Why the first is last in the list: it runs on the current thread. If no thread
+// can be made, the others run after it, and end immediately, since it has shut the base.
+fn run_all<
+    'x,
+    'p: 'x,
+    R: Threads + Wait + Sync,
+    F: Fn(u8, u16, u8, u8) + Sync,
+    P: PatientPort<Hold = ()> + Send,
+>(run: Run<'_, R, F>, harts: &mut [Hart<'x, 'p, P, SharedSite<'p>>])
+    requires callable { F.IsAlwaysCallable run.pass.now }
+    requires starts { AllStart (λ hart. P.seen hart.port) run.tree.now harts.old }
+    ensures { HaveRun P.seen harts.old harts.new }
+{
     harts.reverse();
+    run_each(run, harts);
+    harts.reverse();
+}
+
+// Runs each hart on a thread, the last of them on the current one.
+fn run_each<
+    'x,
+    'p: 'x,
+    R: Threads + Wait + Sync,
+    F: Fn(u8, u16, u8, u8) + Sync,
+    P: PatientPort<Hold = ()> + Send,
+>(run: Run<'_, R, F>, harts: &mut [Hart<'x, 'p, P, SharedSite<'p>>])
+    requires callable { F.IsAlwaysCallable run.pass.now }
+    requires starts { AllStart (λ hart. P.seen hart.port) run.tree.now harts.old }
+    ensures { HaveRun P.seen harts.old harts.new }
+{
     // Why as many parts as harts: the harts of one part run one after another, and each waits for all others.
     let parts = harts.len().max(1);
     thread::for_each_mut(run.rt, harts, parts, &|_, hart| work(run, (), hart));
-    harts.reverse();
-    harts[0].piece.take()
 }
 
 // What the harts give back, in their order.
