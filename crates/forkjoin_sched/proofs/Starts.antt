@@ -1,6 +1,7 @@
 -- Jobs that start from one store, and books whose jobs do.
-use Rattle.std.proofs.Common.{◌≡◌, ◌≢◌, ◌⊎◌, inl, inr, ℕ, Bool, List, ◌∙◌, Some, slice_get, slice_set, IsTrue, ◌↔◌, sym, ap, subst, refl}
-use Rattle.std.proofs.lemmas.Bool.{cases_eq}
+use Rattle.std.proofs.Common.{◌≡◌, ◌≢◌, ◌⊎◌, inl, inr, ℕ, Bool, List, [], ◌∙◌, Option, Some, None, false, slice_get, slice_set, IsTrue, ◌↔◌, sym, ap, subst, refl}
+use Rattle.std.proofs.lemmas.Bool.{cases_eq, false≢true}
+use Rattle.std.proofs.lemmas.Option.{same_Some}
 use Rattle.array_meaning.specs.Stores.{Store}
 use Rattle.array_jobs.specs.Jobs.{JobParts}
 use Rattle.array_jobs.specs.PieceParts.{PieceParts}
@@ -30,6 +31,13 @@ starts_set start jobs i own all new k job at = found (cases_eq k i)
 pub starts_from : (a b : Store) (jobs : List JobParts) (r : Bool) → StartFrom a jobs → IsTrue r ↔ (a ≡ b) → IsTrue r → StartFrom b jobs
 starts_from a b jobs r all tested is = subst (λ (s : Store). StartFrom s jobs) (tested.0 is) all
 
+-- A test of the store that is known to be the start, and of none.
+pub tested_start : (a b : Store) (known : Option Store) (r : Bool) → Some a ≡ known → IsTrue r ↔ (a ≡ b) → IsTrue r ↔ (known ≡ Some b)
+tested_start a b known r is tested = (λ t. sym is ∙ ap Some (tested.0 t), λ e. tested.1 (same_Some a b (is ∙ e)))
+
+pub tested_none : (b : Store) (known : Option Store) → None ≡ known → IsTrue false ↔ (known ≡ Some b)
+tested_none b known is = (λ t. absurd (false≢true t), λ e. absurd (let clash = is ∙ e in cc))
+
 pub same_start : (a b : Store) (xs ys : List JobParts) (r : Bool) → StartFrom b xs → StartFrom a ys → IsTrue r ↔ (a ≡ b) → IsTrue r → HaveSameStart xs ys
 same_start a b xs ys r others own tested is = (b, others, starts_from a b ys r own tested is)
 
@@ -50,15 +58,14 @@ deposit_jobs before piece (Stranger back) after does = ap (λ (b : BookParts). b
 -- ---- the book of a pool, behind its mutex
 
 -- What is got from a mutex is the book that lay in it.
-pub got_book : (before after : Possession BookParts (Unit {0})) (book : BookParts) → Acquires before tt (Got book tt) after → book ≡ free_book before
-got_book (Free value) after book does = let same = does.0 in cc
-got_book (Held waiting) after book does = let same = does.0 in cc
+pub got_book : (before after : Possession BookParts (Unit {0})) (book : BookParts) → Acquires before tt (Got book tt) after → (book ≡ free_book before) × (after ≡ Held [])
+got_book (Free value) after book does = (let same = does.0 in cc, does.1)
+got_book (Held waiting) after book does = absurd (let same = does.0 in cc)
 
 -- The book that is released lies in it then.
-pub freed : (before mid after : Possession BookParts (Unit {0})) (got book : BookParts) (answer : Released BookParts (Unit {0}))
-    → Acquires before tt (Got got tt) mid → Releases mid book answer after → after ≡ Free book
-freed (Free value) mid after got book answer acquires releases = (subst (λ m. Releases m book answer after) acquires.1 releases).1
-freed (Held waiting) mid after got book answer acquires releases = absurd (let same = acquires.0 in cc)
+pub freed : (mid after : Possession BookParts (Unit {0})) (book : BookParts) (answer : Released BookParts (Unit {0})) → mid ≡ Held [] → Releases mid book answer after
+    → after ≡ Free book
+freed mid after book answer held releases = (subst (λ m. Releases m book answer after) held releases).1
 
 -- What a pool keeps of its book, where it is known or not that all jobs start from one store.
 abbrev pub IsKeptPool : Bool → Possession BookParts (Unit {0}) → Type 0
@@ -70,17 +77,17 @@ kept_pool alike after book is one = subst (IsKeptPool alike) (sym is) (refl, one
 
 -- A book whose jobs are the same is put back.
 pub still_kept : (alike : Bool) (before mid after : Possession BookParts (Unit {0})) (got book : BookParts) (answer : Released BookParts (Unit {0}))
-    → IsKeptPool alike before → Acquires before tt (Got got tt) mid → book.jobs ≡ got.jobs → Releases mid book answer after → IsKeptPool alike after
-still_kept alike before mid after got book answer kept acquires same releases =
-    kept_pool alike after book (freed before mid after got book answer acquires releases)
-    (λ is. subst HaveOneStart (ap (λ (b : BookParts). b.jobs) (sym (got_book before mid got acquires)) ∙ sym same) (kept.1 is))
+    → IsKeptPool alike before → got ≡ free_book before → mid ≡ Held [] → book.jobs ≡ got.jobs → Releases mid book answer after → IsKeptPool alike after
+still_kept alike before mid after got book answer kept is held same releases =
+    kept_pool alike after book (freed mid after book answer held releases)
+    (λ one. subst HaveOneStart (sym (same ∙ ap (λ (b : BookParts). b.jobs) is)) (kept.1 one))
 
 -- A book into which a piece was put is put back.
 pub put_kept : (known : Bool) (before mid after : Possession BookParts (Unit {0})) (got book : BookParts) (answer : Released BookParts (Unit {0}))
-    (piece : PieceParts) (deposit : Deposit) → (IsTrue known → StartFrom piece.job.store (free_book before).jobs) → Acquires before tt (Got got tt) mid
+    (piece : PieceParts) (deposit : Deposit) → (IsTrue known → StartFrom piece.job.store (free_book before).jobs) → got ≡ free_book before → mid ≡ Held []
     → Puts got piece deposit book → Releases mid book answer after → IsKeptPool known after
-put_kept known before mid after got book answer piece deposit starts acquires puts releases =
-    kept_pool known after book (freed before mid after got book answer acquires releases)
-    (λ is.
-    let all : StartFrom piece.job.store got.jobs = subst (λ (b : BookParts). StartFrom piece.job.store b.jobs) (sym (got_book before mid got acquires)) (starts is) in
+put_kept known before mid after got book answer piece deposit starts is held puts releases =
+    kept_pool known after book (freed mid after book answer held releases)
+    (λ one.
+    let all : StartFrom piece.job.store got.jobs = subst (λ (b : BookParts). StartFrom piece.job.store b.jobs) (sym is) (starts one) in
     one_start piece.job.store book.jobs (starts_put piece.job.store got piece deposit book puts all refl))

@@ -1,9 +1,10 @@
 -- Pieces of a pool that one hart made and hasn't handed over yet.
-use Rattle.std.specs.Prelude.{◌≡◌, List, [], ◌∷◌, ◌++◌, Option, Some, None, Result, Ok, Err}
+use Rattle.std.specs.Prelude.{◌≡◌, ◌↔◌, Bool, IsTrue, List, [], ◌∷◌, ◌++◌, Option, Some, None, Result, Ok, Err}
 use Rattle.array_meaning.specs.Stores.{Store}
 use Rattle.array_jobs.specs.PieceParts.{PieceParts}
 use Rattle.join_book.specs.Books.{BookParts, Puts}
 use Rattle.join_book.specs.declared.book.Deposit.{Deposit}
+use Rattle.forkjoin_sched.specs.Pools.{PoolParts, start_of}
 use Rattle.forkjoin_sched.specs.declared.batch.NotAdded.{NotAdded}
 use Rattle.forkjoin_sched.specs.declared.batch.NotAdded.TheVariants.{OtherStart, OutOfMemory}
 
@@ -11,6 +12,10 @@ use Rattle.forkjoin_sched.specs.declared.batch.NotAdded.TheVariants.{OtherStart,
 pub record BatchParts : Type 0 where
   pub start : Store
   pub pieces : List PieceParts
+
+-- A batch without pieces, for jobs that start from the store.
+abbrev pub new_batch : Store → BatchParts
+new_batch start = record { start = start; pieces = [] }
 
 -- The batch without its pieces.
 abbrev pub emptied : BatchParts → BatchParts
@@ -41,3 +46,10 @@ abbrev pub PutsAll : List PieceParts → BookParts → BookParts → Type 0
 PutsAll [] before after = after ≡ before
 PutsAll (piece ∷ pieces) before after =
     (now : BookParts) × (deposit : Deposit) × PutsAll pieces before now × Puts now piece deposit after
+
+-- Whether a pool's start is known after these pieces of a batch were put in, whose jobs start from this store: exactly if the
+-- pool was known to start from it. No piece changes nothing.
+abbrev pub KnowsAfter : List PieceParts → Store → PoolParts → Bool → Type 0
+KnowsAfter [] start pool known = known ≡ pool.knows_start
+KnowsAfter (piece ∷ pieces) start pool known =
+    IsTrue known ↔ (start_of pool.knows_start pool.book.jobs ≡ Some start)

@@ -1,7 +1,6 @@
 -- The calls of a hart's hand on a shared pool. A look is one read of the pool under its lock.
 use Rattle.std.specs.Prelude.{◌≡◌, ◌⊎◌, ℕ, ◌+◌, ◌-◌, ◌*◌, ◌<◌, ◌≤◌, List, [], ◌∷◌, ◌++◌, length, map, slice_set, slice_index, Option, Some, None}
 use Rattle.array_jobs.specs.Jobs.{JobParts}
-use Rattle.array_jobs.specs.PieceParts.{PieceParts}
 use Rattle.sched_api.specs.declared.scheduler.Next.{Next}
 use Rattle.sched_api.specs.declared.scheduler.Next.TheVariants.{Run, Lend, Nothing}
 use Rattle.deque_rows.specs.declared.account.Log.{Log}
@@ -9,8 +8,8 @@ use Rattle.deque_rows.specs.declared.hart.HartRows.{HartRows}
 use Rattle.deque_rows.specs.Account.{HeldAtMost, Rose, after_push}
 use Rattle.deque_rows.specs.Rows.{identity, home_logs, pass_logs, bares, home_log, pass_log, bare}
 use Rattle.sched_api.specs.Agenda.{GivesReady}
-use Rattle.forkjoin_sched.specs.Pools.{PoolParts, Answers, with_agenda, with_book}
-use Rattle.forkjoin_sched.specs.Batches.{PutsAll}
+use Rattle.forkjoin_sched.specs.Pools.{PoolParts, Answers, with_agenda}
+use Rattle.forkjoin_sched.specs.Batches.{BatchParts, PutsAll, KnowsAfter}
 use Rattle.step_eval.specs.declared.work.Work.{Work}
 use Rattle.step_eval.specs.declared.work.Work.TheVariants.{Begin, Ready}
 use Rattle.forkjoin_sched.specs.declared.looks.Found.{Found}
@@ -56,12 +55,15 @@ GivesReadyUnder (Some pool) ready None = ⊥
 GivesReadyUnder (Some pool) ready (Some after) =
     GivesReady pool.agenda ready after.agenda × (after ≡ with_agenda pool after.agenda)
 
--- All these pieces are put into the pool's book, and nothing else changes. A pool that was handed out gets none of them.
-abbrev pub HandsOverUnder : List PieceParts → Option PoolParts → Option PoolParts → Type 0
-HandsOverUnder pieces None after = after ≡ None
-HandsOverUnder pieces (Some pool) None = ⊥
-HandsOverUnder pieces (Some pool) (Some after) =
-    PutsAll pieces pool.book after.book × (after ≡ with_book pool after.book)
+-- All pieces of the batch are put into the pool's book, and nothing else changes but whether its start is known. A pool that was
+-- handed out gets none of them.
+abbrev pub HandsOverUnder : BatchParts → Option PoolParts → Option PoolParts → Type 0
+HandsOverUnder batch None after = after ≡ None
+HandsOverUnder batch (Some pool) None = ⊥
+HandsOverUnder batch (Some pool) (Some after) =
+    PutsAll batch.pieces pool.book after.book
+    × KnowsAfter batch.pieces batch.start pool after.knows_start
+    × (after ≡ record pool { book = after.book; knows_start = after.knows_start })
 
 -- The deques --
 

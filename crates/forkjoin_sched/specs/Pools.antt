@@ -1,5 +1,5 @@
 -- The scheduler of one `par`.
-use Rattle.std.specs.Prelude.{◌≡◌, ℕ, List, [], ◌∷◌, ◌++◌, length, map, slice_get, Option, Some, None, Result}
+use Rattle.std.specs.Prelude.{◌≡◌, Bool, true, false, ℕ, List, [], ◌∷◌, ◌++◌, length, map, slice_get, Option, Some, None, option_map, Result}
 use Rattle.array_meaning.specs.Stores.{Store}
 use Rattle.sched_api.specs.Wishes.{wishes_after}
 use Rattle.sched_api.specs.declared.hearing.Told.{Told}
@@ -12,11 +12,13 @@ use Rattle.join_book.specs.Books.{BookParts, open_book}
 use Rattle.step_eval.specs.declared.work.Work.{Work}
 use Rattle.step_eval.specs.declared.work.Work.TheVariants.{Begin, Ready}
 
--- The parts of a pool that contracts see: its site, its lists for harts, and the book of its pieces.
+-- The parts of a pool that contracts see: its site, its lists for harts, the book of its pieces, and whether all jobs of the book
+-- are known to start from one store.
 pub record PoolParts : Type 0 where
   pub site : ℕ
   pub agenda : AgendaParts Work
   pub book : BookParts
+  pub knows_start : Bool
 
 -- The site of the jobs.
 abbrev pub site_of_jobs : List JobParts → ℕ
@@ -36,6 +38,11 @@ HaveOneStart jobs = (i k : ℕ) (a b : JobParts) → slice_get jobs i ≡ Some a
 abbrev pub HaveSameStart : List JobParts → List JobParts → Type 0
 HaveSameStart xs ys = (start : Store) × StartFrom start xs × StartFrom start ys
 
+-- The store from which all jobs start, if that is known.
+abbrev pub start_of : Bool → List JobParts → Option Store
+start_of true jobs = option_map (λ job. job.store) (slice_get jobs 0)
+start_of false jobs = None
+
 -- The pool of jobs none of which is begun, in the order of their indices, with room for so many wishes.
 abbrev pub roomy_pool : List JobParts → ℕ → PoolParts
 roomy_pool jobs wishes = record {
@@ -47,6 +54,7 @@ roomy_pool jobs wishes = record {
     wishes = record { sites = []; room = wishes };
   };
   book = open_book jobs;
+  knows_start = false;
 }
 
 -- The pool with room for the wishes of as many sites as a plan may have.
@@ -63,6 +71,7 @@ pub record Answers (before : PoolParts) (next : Next Work) (after : PoolParts) :
   pub handed : TakesNext before.agenda next after.agenda
   pub site : after.site ≡ before.site
   pub book : after.book ≡ before.book
+  pub start : after.knows_start ≡ before.knows_start
 
 -- A callback changes the wishes of the pool, and nothing else.
 abbrev pub Hears : PoolParts → Told → PoolParts → Type 0
@@ -79,6 +88,7 @@ pub record Takes (before : PoolParts) (c : Work) (answer : Result (Unit {0}) Wor
   pub ready : PutsReady before.agenda c answer after.agenda
   pub site : after.site ≡ before.site
   pub book : after.book ≡ before.book
+  pub start : after.knows_start ≡ before.knows_start
 
 -- The pool has this book, and is otherwise unchanged.
 abbrev pub with_book : PoolParts → BookParts → PoolParts

@@ -1,14 +1,16 @@
 -- A pool under a lock, without its lock-protected state.
-use Rattle.std.specs.Prelude.{◌≡◌, ℕ, List, slice_get, Some}
+use Rattle.std.specs.Prelude.{◌≡◌, Bool, ℕ, List, slice_get, Some}
 use Rattle.array_jobs.specs.Jobs.{JobParts, job_of}
 use Rattle.array_jobs.specs.PieceParts.{PieceParts}
 use Rattle.join_book.specs.declared.book.Deposit.{Deposit}
 use Rattle.join_book.specs.declared.book.Deposit.TheVariants.{Kept, Double, Stranger}
 
--- The parts of a shared pool that contracts see: the site and the jobs of the pool of which it was made.
+-- The parts of a shared pool that contracts see: the site and the jobs of the pool of which it was made, and whether all these jobs
+-- were known to start from one store.
 pub record SharedParts : Type 0 where
   pub site : ℕ
   pub jobs : List JobParts
+  pub knows_start : Bool
 
 -- The job is the job of the index that it names.
 abbrev pub HasJob : SharedParts → JobParts → Type 0

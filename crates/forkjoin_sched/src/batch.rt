@@ -1,7 +1,7 @@
 //! Pieces that a hart keeps for a while.
-ghost use Rattle.std.specs.Prelude.{◌≡◌, ◌↔◌, [], IsTrue, length};
-ghost use Rattle.forkjoin_sched.specs.Pools.{StartFrom, with_book};
-ghost use Rattle.forkjoin_sched.specs.Batches.{Starts, Adds, Takes, PutsAll, emptied};
+ghost use Rattle.std.specs.Prelude.{◌≡◌, ◌↔◌, [], IsTrue, Some, length};
+ghost use Rattle.forkjoin_sched.specs.Pools.{StartFrom, start_of};
+ghost use Rattle.forkjoin_sched.specs.Batches.{new_batch, Starts, Adds, Takes, PutsAll, KnowsAfter, emptied};
 
 use crate::pool::Pool;
 use array_eval::Store;
@@ -50,7 +50,7 @@ impl<'p> PieceBatch<'p> {
     ///
     /// It doesn't allocate.
     pub fn new(alloc: Global, start: Store) -> PieceBatch<'p>
-        ensures { result ≡ record { start = start; pieces = [] } }
+        ensures { result ≡ new_batch start }
     {
         PieceBatch {
             start,
@@ -110,7 +110,11 @@ impl<'p> PieceBatch<'p> {
     pub(crate) fn put_into(&mut self, pool: &mut Pool<'p>)
         ensures batch { self.new ≡ emptied self.old }
         ensures book { PutsAll self.old.pieces pool.old.book pool.new.book }
-        ensures rest { pool.new ≡ with_book pool.old pool.new.book }
+        ensures known { KnowsAfter self.old.pieces self.old.start pool.old pool.new.knows_start }
+        ensures rest { pool.new ≡ record pool.old {
+          book = pool.new.book;
+          knows_start = pool.new.knows_start;
+        } }
     {
         let known = self.starts_as(pool);
         'pieces: while let Some(piece) = self.take() {
@@ -130,7 +134,9 @@ impl<'p> PieceBatch<'p> {
 
     // Whether it is known that all jobs of the pool start from the batch's store.
     fn starts_as(&self, pool: &Pool<'p>) -> bool
-        ensures { IsTrue result → StartFrom self.now.start pool.now.book.jobs }
+        ensures known { IsTrue result
+            ↔ (start_of pool.now.knows_start pool.now.book.jobs ≡ Some self.now.start) }
+        ensures all { IsTrue result → StartFrom self.now.start pool.now.book.jobs }
     {
         match pool.start() {
             Some(start) => *start == self.start,

@@ -110,7 +110,7 @@ impl Looks {
     pub(crate) fn hand_over<'p>(&mut self, kept: &mut Option<Pool<'p>>, batch: &mut PieceBatch<'p>)
         ensures sees { Sees self.old (put_by kept.old (length batch.old.pieces)) self.new }
         ensures batch { batch.new ≡ emptied batch.old }
-        ensures puts { HandsOverUnder batch.old.pieces kept.old kept.new }
+        ensures puts { HandsOverUnder batch.old kept.old kept.new }
     {
         let Some(pool) = kept else {
             batch.clear();

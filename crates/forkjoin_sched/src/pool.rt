@@ -1,13 +1,15 @@
 //! Pools.
-ghost use Rattle.std.specs.Prelude.{◌≡◌, ◌↔◌, ◌<◌, IsTrue, IfOk, IfSome, IsErr, map, length};
+ghost use Rattle.std.specs.Prelude.{◌≡◌, ◌↔◌, ◌<◌, [], true, false, IsTrue, IfOk, IfSome, IsErr, map, length, option_map};
 ghost use Rattle.sched_api.specs.Wishes.{with_wishes};
 ghost use Rattle.array_jobs.specs.Jobs.{job_of};
 ghost use Rattle.array_jobs.specs.Groups.{IsGroup};
 ghost use Rattle.sched_api.specs.Agenda.{GivesReady};
+ghost use Rattle.lithe_mutex.specs.Mutex.{Free, Held};
 ghost use Rattle.join_book.specs.Books.{Open, Filled, Failed, IsMarked, IsPlaceOf, IsFull, HasFailed, Deposits, Puts, marked_book, all_writes};
 ghost use Rattle.step_eval.specs.declared.work.Work.TheVariants.{Begin};
-ghost use Rattle.forkjoin_sched.specs.Pools.{StartFrom, HaveOneStart, new_pool, roomy_pool, Answers, Hears, Takes, with_book, with_agenda, GivesJob};
+ghost use Rattle.forkjoin_sched.specs.Pools.{StartFrom, HaveOneStart, start_of, new_pool, roomy_pool, Answers, Hears, Takes, free_book, with_book, with_agenda, GivesJob};
 
+use crate::same_jobs::known_start;
 use array_eval::{Overlay, Store};
 use array_jobs::{Job, Piece};
 use join_book::{Book, Deposit};
@@ -43,7 +45,7 @@ pub struct Pool<'p> {
     agenda: Agenda<PoolWork<'p>>,
     book: MutexState<Book<'p>, ()>,
     // Whether all jobs of the book are known to start from one store.
-    alike: bool,
+    knows_start: bool,
 }
 
 impl<'p> Model for Pool<'p> {
@@ -60,10 +62,15 @@ impl<'p> Model for Pool<'p> {
 
     ghost coded = { Prim.hlevel (codes, arrays_type.the_row.coded, block_type.the_row.coded, stage_type.the_row.coded, coded_sequence) };
 
-    ghost view = { λ pool. record { site = pool.site; agenda = pool.agenda; book = free_book pool.book.possession } };
+    ghost view = { λ pool. record {
+      site = pool.site;
+      agenda = pool.agenda;
+      book = free_book pool.book.possession;
+      knows_start = pool.knows_start;
+    } };
 
     ghost invariant = { λ pool. (pool.book.possession ≡ Free (free_book pool.book.possession))
-        × (IsTrue pool.alike → HaveOneStart (free_book pool.book.possession).jobs) };
+        × (IsTrue pool.knows_start → HaveOneStart (free_book pool.book.possession).jobs) };
 }
 
 impl<'p> Pool<'p> {
@@ -120,30 +127,28 @@ impl<'p> Pool<'p> {
     ) -> Result<Pool<'p>, AllocError>
         requires group { IsGroup (map job_of jobs.items) }
         requires start { HaveOneStart jobs.items }
-        ensures { IfOk result (λ pool. pool ≡ roomy_pool jobs.entry.items wishes) }
+        ensures { IfOk result
+            (λ pool. pool ≡ record (roomy_pool jobs.entry.items wishes) { knows_start = true }) }
     {
         pool_of(alloc, jobs, wishes, true)
     }
 
     // Whether all jobs are known to start from one store.
-    pub(crate) fn has_one_start(&self) -> bool
-        ensures { IsTrue result → HaveOneStart self.now.book.jobs }
+    pub(crate) fn knows_start(&self) -> bool
+        ensures known { result ≡ self.now.knows_start }
+        ensures one { IsTrue result → HaveOneStart self.now.book.jobs }
     {
-        self.alike
+        self.knows_start
     }
 
     /// The store from which all jobs start, if they are known to start from one: if `of_one_start` made the pool, and `put` hasn't
     /// put a piece in.
     pub fn start(&self) -> Option<&Store>
-        ensures { IfSome result (λ start. StartFrom start.now self.now.book.jobs) }
+        ensures known { option_map (λ start. start.now) result
+            ≡ start_of self.now.knows_start self.now.book.jobs }
+        ensures all { IfSome result (λ start. StartFrom start.now self.now.book.jobs) }
     {
-        if !self.has_one_start() {
-            return None;
-        }
-        match self.jobs().first() {
-            Some(job) => Some(&job.store),
-            None => None,
-        }
+        known_start(self.jobs(), self.knows_start())
     }
 
     /// The number of ready contexts.
@@ -182,20 +187,16 @@ impl<'p> Pool<'p> {
         ensures book { Deposits self.old.book piece.entry result self.new.book }
         ensures rest { self.new ≡ with_book self.old self.new.book }
     {
-        match self.book.acquire(()) {
-            Acquired::Got(mut book, ()) => {
-                let deposit = book.deposit(piece);
-                self.book.release(book);
-                deposit
-            }
-            Acquired::Kept => unreachable!(),
-        }
+        let mut book = acquire(&mut self.book);
+        let deposit = book.deposit(piece);
+        self.book.release(book);
+        deposit
     }
 
     /// Puts a piece into the slot that its job names, with that job instead of the slot's own, as `put` of the book does.
     pub fn put(&mut self, piece: Piece<'p>) -> Deposit<'p>
         ensures book { Puts self.old.book piece.entry result self.new.book }
-        ensures rest { self.new ≡ with_book self.old self.new.book }
+        ensures rest { self.new ≡ record self.old { book = self.new.book; knows_start = false } }
     {
         self.put_in(piece, false)
     }
@@ -204,17 +205,13 @@ impl<'p> Pool<'p> {
     pub(crate) fn put_in(&mut self, piece: Piece<'p>, known: bool) -> Deposit<'p>
         requires { IsTrue known → StartFrom piece.job.store self.old.book.jobs }
         ensures book { Puts self.old.book piece.entry result self.new.book }
-        ensures rest { self.new ≡ with_book self.old self.new.book }
+        ensures rest { self.new ≡ record self.old { book = self.new.book; knows_start = known } }
     {
-        self.alike = known;
-        match self.book.acquire(()) {
-            Acquired::Got(mut book, ()) => {
-                let deposit = book.put(piece);
-                self.book.release(book);
-                deposit
-            }
-            Acquired::Kept => unreachable!(),
-        }
+        self.knows_start = known;
+        let mut book = acquire(&mut self.book);
+        let deposit = book.put(piece);
+        self.book.release(book);
+        deposit
     }
 
     /// Puts a piece into the slot of its job, which must be open. The caller knows the slot, so no jobs are compared.
@@ -224,23 +221,16 @@ impl<'p> Pool<'p> {
         ensures { self.new ≡ with_book self.old
             (marked_book self.old.book piece.entry.job.place Filled) }
     {
-        match self.book.acquire(()) {
-            Acquired::Got(mut book, ()) => {
-                book.keep(piece);
-                self.book.release(book);
-            }
-            Acquired::Kept => unreachable!(),
-        }
+        let mut book = acquire(&mut self.book);
+        book.keep(piece);
+        self.book.release(book);
     }
 
     /// Whether the slot at this index exists and is open.
     pub fn is_open(&self, place: u8) -> bool
         ensures { IsTrue result ↔ IsMarked self.now.book place Open }
     {
-        match self.book.value() {
-            Some(book) => book.is_open(place),
-            None => unreachable!(),
-        }
+        self.book().is_open(place)
     }
 
     /// Marks a slot as failed: an allocation failed for its piece. The slot must be open, which a caller tests by `is_open`; a
@@ -249,41 +239,38 @@ impl<'p> Pool<'p> {
         requires { IsMarked self.old.book place Open }
         ensures { self.new ≡ with_book self.old (marked_book self.old.book place Failed) }
     {
-        match self.book.acquire(()) {
-            Acquired::Got(mut book, ()) => {
-                book.fail(place);
-                self.book.release(book);
-            }
-            Acquired::Kept => unreachable!(),
-        }
+        let mut book = acquire(&mut self.book);
+        book.fail(place);
+        self.book.release(book);
     }
 
     /// Whether every slot is filled or failed.
     pub fn is_full(&self) -> bool
         ensures { IsTrue result ↔ IsFull self.now.book }
     {
-        match self.book.value() {
-            Some(book) => book.is_full(),
-            None => unreachable!(),
-        }
+        self.book().is_full()
     }
 
     /// Whether some slot is failed.
     pub fn has_failed(&self) -> bool
         ensures { IsTrue result ↔ HasFailed self.now.book }
     {
-        match self.book.value() {
-            Some(book) => book.has_failed(),
-            None => unreachable!(),
-        }
+        self.book().has_failed()
     }
 
     /// The jobs, in the order of their indices: those of the pool, and of pieces that were put in.
     pub fn jobs(&self) -> &[Job<'p>]
         ensures { result.now ≡ self.now.book.jobs }
     {
+        self.book().jobs()
+    }
+
+    // The book, which is free between calls.
+    fn book(&self) -> &Book<'p>
+        ensures { result.now ≡ self.now.book }
+    {
         match self.book.value() {
-            Some(book) => book.jobs(),
+            Some(book) => book,
             None => unreachable!(),
         }
     }
@@ -303,23 +290,33 @@ impl<'p> Pool<'p> {
         ensures written { IfOk result (λ overlay. overlay.pairs ≡ all_writes self.entry.book) }
     {
         let Pool { mut book, .. } = self;
-        match book.acquire(()) {
-            Acquired::Got(book, ()) => book.take_all(),
-            Acquired::Kept => unreachable!(),
-        }
+        acquire(&mut book).take_all()
     }
 }
 
-// The pool of these jobs, with room for so many wishes. `alike`: all jobs start from one store.
+// Acquires the book of a pool, which is free between calls.
+fn acquire<'p>(mutex: &mut MutexState<Book<'p>, ()>) -> Book<'p>
+    requires { mutex.old.possession ≡ Free (free_book mutex.old.possession) }
+    ensures got { result ≡ free_book mutex.old.possession }
+    ensures held { mutex.new.possession ≡ Held [] }
+{
+    match mutex.acquire(()) {
+        Acquired::Got(book, ()) => book,
+        Acquired::Kept => unreachable!(),
+    }
+}
+
+// The pool of these jobs, with room for so many wishes. `knows_start`: all jobs start from one store.
 fn pool_of<'p>(
     alloc: Global,
     jobs: Vec<Job<'p>>,
     wishes: usize,
-    alike: bool,
+    knows_start: bool,
 ) -> Result<Pool<'p>, AllocError>
     requires group { IsGroup (map job_of jobs.items) }
-    requires alike { IsTrue alike → HaveOneStart jobs.items }
-    ensures { IfOk result (λ pool. pool ≡ roomy_pool jobs.entry.items wishes) }
+    requires start { IsTrue knows_start → HaveOneStart jobs.items }
+    ensures { IfOk result (λ pool. pool
+        ≡ record (roomy_pool jobs.entry.items wishes) { knows_start = knows_start }) }
 {
     let site = jobs[0].site;
     let count = jobs.len();
@@ -330,7 +327,7 @@ fn pool_of<'p>(
         site,
         agenda,
         book,
-        alike,
+        knows_start,
     })
 }
 

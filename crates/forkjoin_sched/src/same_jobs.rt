@@ -1,10 +1,26 @@
-//! Whether lists of jobs are equal.
-ghost use Rattle.std.specs.Prelude.{◌≡◌, ◌↔◌, IsTrue, map};
+//! Whether lists of jobs are equal, and the store from which the jobs of a list start.
+ghost use Rattle.std.specs.Prelude.{◌≡◌, ◌↔◌, IfSome, IsTrue, map, option_map};
 ghost use Rattle.array_jobs.specs.Jobs.{job_of};
-ghost use Rattle.forkjoin_sched.specs.Pools.{HaveSameStart};
+ghost use Rattle.forkjoin_sched.specs.Pools.{HaveOneStart, HaveSameStart, StartFrom, start_of};
 ghost use Rattle.forkjoin_sched.specs.Rests.{rest_eq};
 
+use array_eval::Store;
 use array_jobs::Job;
+
+/// The store from which all jobs start, if that is known. `None` also if there is no job.
+pub(crate) fn known_start<'a>(jobs: &'a [Job], is_known: bool) -> Option<&'a Store>
+    requires { IsTrue is_known → HaveOneStart jobs.now }
+    ensures known { option_map (λ start. start.now) result ≡ start_of is_known jobs.now }
+    ensures all { IfSome result (λ start. StartFrom start.now jobs.now) }
+{
+    if !is_known {
+        return None;
+    }
+    match jobs.first() {
+        Some(job) => Some(&job.store),
+        None => None,
+    }
+}
 
 /// Whether jobs are equal, each to the one at its index.
 pub(crate) fn have_same_jobs(xs: &[Job], ys: &[Job]) -> bool

@@ -1,11 +1,11 @@
 //! Pools that harts share.
-ghost use Rattle.std.specs.Prelude.{◌≡◌, ◌↔◌, length, map, IfOk, IfSome, IsTrue, vec_len};
+ghost use Rattle.std.specs.Prelude.{◌≡◌, ◌↔◌, length, map, option_map, IfOk, IfSome, IsTrue, vec_len};
 ghost use Rattle.array_jobs.specs.Jobs.{job_of};
-ghost use Rattle.forkjoin_sched.specs.Pools.{StartFrom, HaveOneStart, HaveSameStart};
+ghost use Rattle.forkjoin_sched.specs.Pools.{StartFrom, HaveSameStart, start_of};
 ghost use Rattle.forkjoin_sched.specs.Shared.{HasJob};
 
 use crate::pool::Pool;
-use crate::same_jobs::{have_same_jobs, have_same_work};
+use crate::same_jobs::{have_same_jobs, have_same_work, known_start};
 use array_eval::Store;
 use array_jobs::{Job, copy_jobs};
 use sched_api::Scheduler;
@@ -26,7 +26,7 @@ pub struct SharedPool<'p> {
     slots: Vec<Mutex<Option<Job<'p>>>>,
     jobs: Vec<Job<'p>>,
     // Whether all these jobs are known to start from one store.
-    alike: bool,
+    knows_start: bool,
 }
 
 impl<'p> Model for SharedPool<'p> {
@@ -41,10 +41,14 @@ impl<'p> Model for SharedPool<'p> {
 
     ghost coded = { Prim.hlevel (codes, arrays_type.the_row.coded, block_type.the_row.coded) };
 
-    ghost view = { λ shared. record { site = shared.site; jobs = shared.jobs.items } };
+    ghost view = { λ shared. record {
+      site = shared.site;
+      jobs = shared.jobs.items;
+      knows_start = shared.knows_start;
+    } };
 
     ghost invariant = { λ shared. (vec_len shared.slots ≡ vec_len shared.jobs)
-        × (IsTrue shared.alike → HaveOneStart shared.jobs.items) };
+        × (IsTrue shared.knows_start → HaveOneStart shared.jobs.items) };
 }
 
 impl<'p> SharedPool<'p> {
@@ -61,6 +65,7 @@ impl<'p> SharedPool<'p> {
         ensures { IfOk result (λ shared. shared ≡ record {
           site = pool.entry.site;
           jobs = pool.entry.book.jobs;
+          knows_start = pool.entry.knows_start;
         }) }
     {
         let site = pool.site();
@@ -68,7 +73,7 @@ impl<'p> SharedPool<'p> {
         let slots = empty_slots(alloc, jobs.len())?;
         let ready = pool.ready_count() as u64;
         let full = pool.is_full();
-        let alike = pool.has_one_start();
+        let knows_start = pool.knows_start();
         Ok(SharedPool {
             site,
             lock: Mutex::new(Some(pool)),
@@ -76,7 +81,7 @@ impl<'p> SharedPool<'p> {
             full: AtomicBool::new(full),
             slots,
             jobs,
-            alike,
+            knows_start,
         })
     }
 
@@ -89,22 +94,11 @@ impl<'p> SharedPool<'p> {
 
     /// The store from which all its jobs start, if they are known to start from one.
     pub fn start(&self) -> Option<&Store>
-        ensures { IfSome result (λ start. StartFrom start.now self.now.jobs) }
+        ensures known { option_map (λ start. start.now) result
+            ≡ start_of self.now.knows_start self.now.jobs }
+        ensures all { IfSome result (λ start. StartFrom start.now self.now.jobs) }
     {
-        if !self.has_one_start() {
-            return None;
-        }
-        match self.jobs().first() {
-            Some(job) => Some(&job.store),
-            None => None,
-        }
-    }
-
-    // Whether all jobs are known to start from one store.
-    fn has_one_start(&self) -> bool
-        ensures { IsTrue result → HaveOneStart self.now.jobs }
-    {
-        self.alike
+        known_start(&self.jobs, self.knows_start)
     }
 
     /// Whether the pool has exactly these jobs. If the jobs of each are known to start from one store, only those two stores are

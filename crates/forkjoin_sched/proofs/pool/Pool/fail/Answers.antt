@@ -5,5 +5,5 @@ use Rattle.forkjoin_sched.proofs.pool.Pool.fail.Goals as goal
 
 pub invariant_of-self : goal.invariant_of-self
 invariant_of-self c =
-    still_kept c.self.inside.alike c.self.inside.book.possession c.acquire.new.self.possession c.release.new.self.possession c.in-Got.book c.fail.new.self c.release.result
-    c.self.invariant c.in-Got.ensures.does (ap (λ (b : BookParts). b.jobs) c.fail.ensures) c.release.ensures.does
+    still_kept c.self.inside.knows_start c.self.inside.book.possession c.acquire-book.new.mutex.possession c.release.new.self.possession c.acquire-book.result c.fail.new.self c.release.result
+    c.self.invariant c.acquire-book.ensures.got c.acquire-book.ensures.held (ap (λ (b : BookParts). b.jobs) c.fail.ensures) c.release.ensures.does

@@ -1,14 +1,17 @@
-use Rattle.std.proofs.Common.{◌≡◌, List, Some, slice_get, sym, ap, subst}
-use Rattle.array_meaning.specs.Stores.{Store}
+use Rattle.std.proofs.Common.{List, IfSome, ◌∙◌, sym, ap, subst}
 use Rattle.array_jobs.specs.Jobs.{JobParts}
-use Rattle.forkjoin_sched.specs.Pools.{StartFrom}
-use Rattle.forkjoin_sched.proofs.Starts.{all_start}
+use Rattle.forkjoin_sched.specs.Pools.{StartFrom, HaveOneStart, start_of}
+use Rattle.forkjoin_sched.specs.Shared.{SharedParts}
 use Rattle.forkjoin_sched.proofs.shared.SharedPool.start.Goals as goal
 
-pub returns-in-Some : goal.returns-in-Some
-returns-in-Some c =
-    let one = c.has_one_start.ensures c.if-not-has_one_start.false in
-    let at : slice_get c.args.self.now.jobs 0 ≡ Some c.in-Some.job.now
-    = subst (λ (l : List JobParts). slice_get l 0 ≡ Some c.in-Some.job.now) c.jobs.ensures (sym c.in-Some.ensures.value) in
-    subst (λ (s : Store). StartFrom s c.args.self.now.jobs) (sym (ap (λ (j : JobParts). j.store) c.job.view_is))
-    (all_start c.args.self.now.jobs 0 c.in-Some.job.now one at)
+pub known_start-requires : goal.known_start-requires
+known_start-requires c = λ is. subst HaveOneStart (sym c.deref.ensures.value) (c.self.invariant.1 is)
+
+pub returns-clause-known : goal.returns-clause-known
+returns-clause-known c =
+    c.known_start.ensures.known ∙ ap (start_of c.self.inside.knows_start) c.deref.ensures.value ∙ ap (λ (s : SharedParts). start_of s.knows_start s.jobs) c.self.view_is
+
+pub returns-clause-all : goal.returns-clause-all
+returns-clause-all c =
+    subst (λ (l : List JobParts). IfSome c.known_start.result (λ start. StartFrom start.now l))
+    (c.deref.ensures.value ∙ ap (λ (s : SharedParts). s.jobs) c.self.view_is) c.known_start.ensures.all
