@@ -2,6 +2,5 @@ pub mod ClaimRows
 pub mod Identities
 pub mod Places
 pub mod Completed
-pub mod Work
 pub mod HartLocals
 pub mod Keeping

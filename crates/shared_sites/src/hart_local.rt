@@ -13,9 +13,9 @@ ghost use Rattle.forkjoin_sched.specs.Batches.{emptied};
 use crate::claims::Claims;
 use crate::completed::Completed;
 use crate::kept::keep;
+use crate::scheduler_ref::SchedulerRef::{Base, NoScheduler, Pipe, Pool, Team};
 use crate::scheduler_ref::{PoolPlace, SchedulerRef, TeamPlace};
 use crate::shared_site::SharedSite;
-use crate::work::with_job;
 use array_jobs::{Job, Piece};
 use base_sched::SharedBaseHand;
 use crossbeam_utils::Backoff;
@@ -28,7 +28,7 @@ use sched_api::{Call, Next, Scheduler, Told};
 use std::alloc::{AllocError, Global};
 use std::marker::Model;
 use std::sync::Wait;
-use step_eval::{Kind, Nested};
+use step_eval::{Kind, Nested, Work};
 
 /// The hart-local state for all sites: its access to the deques, its seat of the claim table, and the counters of each site.
 ///
@@ -148,15 +148,15 @@ impl<'t> HartLocal<'t> {
     {
         match shared {
             SharedSite::Pool { home, pool } => match self.pool_place(pool, *home, level) {
-                Some(place) => SchedulerRef::Pool(place),
-                None => SchedulerRef::NoScheduler,
+                Some(place) => Pool(place),
+                None => NoScheduler,
             },
             SharedSite::Team(team) => match self.team_place(team) {
-                Some(place) => SchedulerRef::Team(place),
-                None => SchedulerRef::NoScheduler,
+                Some(place) => Team(place),
+                None => NoScheduler,
             },
-            SharedSite::Pipe(pipe) => SchedulerRef::Pipe(pipe),
-            SharedSite::Alone => SchedulerRef::NoScheduler,
+            SharedSite::Pipe(pipe) => Pipe(pipe),
+            SharedSite::Alone => NoScheduler,
         }
     }
 
@@ -174,29 +174,11 @@ impl<'t> HartLocal<'t> {
         ensures hart_local { self.new ≡ self.old }
     {
         match scheduler_ref {
-            SchedulerRef::Base(base) => call_back(
-                &mut SharedBaseHand::new(base),
-                rt,
-                call,
-                child,
-                count,
-            ),
-            SchedulerRef::Pool(place) => call_back(
-                &mut place.hand(&mut self.rows),
-                rt,
-                call,
-                child,
-                count,
-            ),
-            SchedulerRef::Team(place) => call_back(
-                &mut place.hand(&mut self.seat),
-                rt,
-                call,
-                child,
-                count,
-            ),
-            SchedulerRef::Pipe(pipe) => call_back(&mut PipeHand::new(pipe), rt, call, child, count),
-            SchedulerRef::NoScheduler => callback_with(call, child, count),
+            Base(base) => call_back(&mut SharedBaseHand::new(base), rt, call, child, count),
+            Pool(place) => call_back(&mut place.hand(&mut self.rows), rt, call, child, count),
+            Team(place) => call_back(&mut place.hand(&mut self.seat), rt, call, child, count),
+            Pipe(pipe) => call_back(&mut PipeHand::new(pipe), rt, call, child, count),
+            NoScheduler => callback_with(call, child, count),
         }
     }
 
@@ -214,7 +196,7 @@ impl<'t> HartLocal<'t> {
         ensures hart_local { self.new ≡ self.old }
         ensures kept { HandsOver scheduler_ref.entry kept.old result kept.new }
     {
-        let is_guest = !is_home && !matches!(scheduler_ref, SchedulerRef::Base(_));
+        let is_guest = !is_home && !matches!(scheduler_ref, Base(_));
         let backoff = Backoff::new();
         'looks: for _ in rt.forever() {
             if self.is_over(rt, scheduler_ref, is_home) {
@@ -222,8 +204,9 @@ impl<'t> HartLocal<'t> {
                 return Next::Nothing;
             }
             match self.look(rt, scheduler_ref) {
-                Next::Run(Some(job)) => return Next::Run(job),
-                Next::Run(None) => {}
+                Next::Run(Work::Begin(job)) => return Next::Run(job),
+                // No run has such a context, since no piece waits at a mutex.
+                Next::Run(Work::Ready(_)) => {}
                 Next::Lend(child) => {
                     let _ = self.hand_over(rt, scheduler_ref, kept);
                     return Next::Lend(child);
@@ -255,30 +238,29 @@ impl<'t> HartLocal<'t> {
         ensures any { result ≡ false → kept.new ≡ kept.old }
     {
         match scheduler_ref {
-            SchedulerRef::Pool(place) => hand_over_in(rt, place, &mut self.rows, kept),
-            SchedulerRef::Base(_)
-            | SchedulerRef::Team(_)
-            | SchedulerRef::Pipe(_)
-            | SchedulerRef::NoScheduler => { false }
+            Pool(place) => hand_over_in(rt, place, &mut self.rows, kept),
+            Base(_) | Team(_) | Pipe(_) | NoScheduler => { false }
         }
     }
 
-    // The action that the scheduler returns for a hart inside. `None` is a context that was dropped; no run has one, since no
-    // piece waits at a mutex.
+    // The action that the scheduler returns for a hart inside.
     fn look<'b, 'p, R: Wait + 'b>(
         &mut self,
         rt: &'b R,
         scheduler_ref: SchedulerRef<'b, 'p>,
-    ) -> Next<Option<Job<'p>>>
+    ) -> Next<Work<'p>>
         requires { Fits self.old scheduler_ref }
         ensures { self.new ≡ self.old }
     {
         match scheduler_ref {
-            SchedulerRef::Base(base) => with_job(SharedBaseHand::new(base).enter(rt)),
-            SchedulerRef::Pool(place) => with_job(place.hand(&mut self.rows).enter(rt)),
-            SchedulerRef::Team(place) => with_job(place.hand(&mut self.seat).enter(rt)),
-            SchedulerRef::Pipe(pipe) => with_job(PipeHand::new(pipe).enter(rt)),
-            SchedulerRef::NoScheduler => Next::Nothing,
+            Base(base) => match SharedBaseHand::new(base).enter(rt) {
+                Next::Lend(child) => Next::Lend(child),
+                Next::Run(()) | Next::Nothing => Next::Nothing,
+            },
+            Pool(place) => place.hand(&mut self.rows).enter(rt),
+            Team(place) => place.hand(&mut self.seat).enter(rt),
+            Pipe(pipe) => PipeHand::new(pipe).enter(rt),
+            NoScheduler => Next::Nothing,
         }
     }
 
@@ -294,11 +276,11 @@ impl<'t> HartLocal<'t> {
         ensures { self.new ≡ self.old }
     {
         match scheduler_ref {
-            SchedulerRef::Base(base) => base.is_shut(),
-            SchedulerRef::Pool(place) => is_home && place.hand::<R>(&mut self.rows).is_full(rt),
-            SchedulerRef::Team(place) => is_home && place.hand::<R>(&mut self.seat).is_over(rt),
-            SchedulerRef::Pipe(pipe) => is_home && PipeHand::<R>::new(pipe).is_full(rt),
-            SchedulerRef::NoScheduler => true,
+            Base(base) => base.is_shut(),
+            Pool(place) => is_home && place.hand::<R>(&mut self.rows).is_full(rt),
+            Team(place) => is_home && place.hand::<R>(&mut self.seat).is_over(rt),
+            Pipe(pipe) => is_home && PipeHand::<R>::new(pipe).is_full(rt),
+            NoScheduler => true,
         }
     }
 
@@ -307,7 +289,7 @@ impl<'t> HartLocal<'t> {
         requires { Fits self.old scheduler_ref }
         ensures { self.new ≡ self.old }
     {
-        if let SchedulerRef::Pool(place) = scheduler_ref {
+        if let Pool(place) = scheduler_ref {
             offer_in(rt, place, &mut self.rows);
         }
     }
@@ -327,15 +309,15 @@ impl<'t> HartLocal<'t> {
         ensures kept { StillKeeps kept.old piece.entry kept.new }
     {
         match scheduler_ref {
-            SchedulerRef::Pool(place) => {
+            Pool(place) => {
                 if let Err(piece) = keep(alloc, place.pool, kept, piece) {
                     let _ = place.hand::<R>(&mut self.rows).deposit(rt, piece);
                 }
             }
-            SchedulerRef::Team(place) => {
+            Team(place) => {
                 let _ = place.hand::<R>(&mut self.seat).arrive(rt, piece);
             }
-            SchedulerRef::Pipe(pipe) => {
+            Pipe(pipe) => {
                 let _ = PipeHand::<R>::new(pipe).deposit(rt, piece);
             }
             _ => {}
@@ -355,9 +337,9 @@ impl<'t> HartLocal<'t> {
         ensures { self.new ≡ self.old }
     {
         match scheduler_ref {
-            SchedulerRef::Pool(pool) => pool.hand::<R>(&mut self.rows).fail(rt, place),
-            SchedulerRef::Team(team) => team.hand::<R>(&mut self.seat).fail(rt, place),
-            SchedulerRef::Pipe(pipe) => PipeHand::<R>::new(pipe).fail(rt, place, phase),
+            Pool(pool) => pool.hand::<R>(&mut self.rows).fail(rt, place),
+            Team(team) => team.hand::<R>(&mut self.seat).fail(rt, place),
+            Pipe(pipe) => PipeHand::<R>::new(pipe).fail(rt, place, phase),
             _ => {}
         }
     }
@@ -373,11 +355,11 @@ impl<'t> HartLocal<'t> {
         ensures { self.new ≡ self.old }
     {
         match scheduler_ref {
-            SchedulerRef::Base(_) => false,
-            SchedulerRef::Pool(place) => place.hand::<R>(&mut self.rows).has_failed(rt),
-            SchedulerRef::Team(place) => place.hand::<R>(&mut self.seat).has_failed(rt),
-            SchedulerRef::Pipe(pipe) => PipeHand::<R>::new(pipe).has_failed(rt),
-            SchedulerRef::NoScheduler => true,
+            Base(_) => false,
+            Pool(place) => place.hand::<R>(&mut self.rows).has_failed(rt),
+            Team(place) => place.hand::<R>(&mut self.seat).has_failed(rt),
+            Pipe(pipe) => PipeHand::<R>::new(pipe).has_failed(rt),
+            NoScheduler => true,
         }
     }
 
@@ -392,17 +374,15 @@ impl<'t> HartLocal<'t> {
         ensures hart_local { self.new ≡ self.old }
     {
         match scheduler_ref {
-            SchedulerRef::Pool(place) => {
+            Pool(place) => {
                 let pool = place.hand::<R>(&mut self.rows).take_out(rt);
                 Some(Completed::Pool(pool?))
             }
-            SchedulerRef::Team(place) => {
+            Team(place) => {
                 let team = place.hand::<R>(&mut self.seat).take_out(rt);
                 Some(Completed::Team(team?))
             }
-            SchedulerRef::Pipe(pipe) => Some(Completed::Pipe(PipeHand::<R>::new(pipe).take_out(
-                rt,
-            )?)),
+            Pipe(pipe) => Some(Completed::Pipe(PipeHand::<R>::new(pipe).take_out(rt)?)),
             _ => None,
         }
     }

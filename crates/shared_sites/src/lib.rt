@@ -18,7 +18,6 @@ mod hart_local;
 mod kept;
 mod scheduler_ref;
 mod shared_site;
-mod work;
 
 pub use claims::Claims;
 pub use completed::Completed;
