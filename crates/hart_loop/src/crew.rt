@@ -16,11 +16,12 @@ use base_sched::{Base, SharedBase};
 use deque_rows::laws::settle;
 use deque_rows::{HartRows, ROOM, rows_for};
 use disjoint_check::Accepted;
+use hart_work::Run;
 use loop_team::ClaimSeat;
 use loop_team::laws::claimed;
 use once_cell::race::OnceBox;
 use shared_sites::{Claims, SharedSite, cells, hart_locals_of, lines};
-use site_steps::{PatientPort, SiteTree};
+use site_steps::PatientPort;
 use std::alloc::{AllocError, Global};
 use std::sync::Wait;
 use std::thread;
@@ -42,28 +43,23 @@ use std::thread::Threads;
 pub fn run_ports<
     'p,
     R: Threads + Wait + Sync,
-    F: Fn(u8, u16, u8, u8) + Sync,
+    F: Fn(u8, &Job<'p>) + Sync,
     P: PatientPort<Hold = ()> + Send + Drop,
 >(
-    rt: &R,
-    alloc: Global,
+    run: Run<'_, R, F>,
     accepted: &Accepted<'p>,
     members: TeamMode,
-    pass: &F,
-    tree: &SiteTree,
     ports: Vec<P>,
 ) -> Result<(Piece<'p>, Vec<P>), AllocError>
-    requires callable { F.IsAlwaysCallable pass.now }
+    requires callable { F.IsAlwaysCallable run.pass.now }
     requires count { vec_len ports ≡ accepted.now.plan.harts }
-    requires starts { AllStart P.seen tree.now ports.items }
+    requires starts { AllStart P.seen run.tree.now ports.items }
     ensures piece { IfOk result
         (λ back. job_of back.0.job ≡ body_of (program_of accepted.now.program)) }
     ensures same { IfOk result (λ back. AreSame P.seen ports.items back.1.items) }
 {
-    let (words, crew_parts) = lend(alloc, accepted, ports)?;
-    let (piece, crew_parts) = run_lent(
-        rt, alloc, accepted, members, pass, tree, &words, crew_parts,
-    )?;
+    let (words, crew_parts) = lend(run.alloc, accepted, ports)?;
+    let (piece, crew_parts) = run_lent(run, accepted, members, &words, crew_parts)?;
     let CrewParts {
         ports,
         rows,
@@ -124,23 +120,20 @@ fn settle_all(words: Claims, rows: Vec<HartRows>, claims: Vec<ClaimSeat>)
 fn run_lent<
     'p,
     R: Threads + Wait + Sync,
-    F: Fn(u8, u16, u8, u8) + Sync,
+    F: Fn(u8, &Job<'p>) + Sync,
     P: PatientPort<Hold = ()> + Send + Drop,
 >(
-    rt: &R,
-    alloc: Global,
+    run: Run<'_, R, F>,
     accepted: &Accepted<'p>,
     members: TeamMode,
-    pass: &F,
-    tree: &SiteTree,
     words: &Claims,
     crew_parts: CrewParts<P>,
 ) -> Result<(Option<Piece<'p>>, CrewParts<P>), AllocError>
-    requires callable { F.IsAlwaysCallable pass.now }
+    requires callable { F.IsAlwaysCallable run.pass.now }
     requires some { 0 < vec_len crew_parts.ports }
     requires rows { vec_len crew_parts.rows ≡ vec_len crew_parts.ports }
     requires claims { vec_len crew_parts.claims ≡ vec_len crew_parts.ports }
-    requires starts { AllStart P.seen tree.now crew_parts.ports.items }
+    requires starts { AllStart P.seen run.tree.now crew_parts.ports.items }
     requires hart_local { AreHartLocals words.now.table crew_parts.rows.items crew_parts.claims.items }
     ensures piece { IfOk result (λ back. IfSome back.0
         (λ piece. job_of piece.job ≡ body_of (program_of accepted.now.program))) }
@@ -149,13 +142,11 @@ fn run_lent<
     ensures hart_local { IfOk result
         (λ back. AreHartLocals words.now.table back.1.rows.items back.1.claims.items) }
 {
-    let sites = tree.plan().sites();
-    let base = SharedBase::new(Base::new(alloc, sites)?);
-    let cells = cells(alloc, sites)?;
-    let job = body_job(alloc, accepted.program())?;
-    run_on(
-        rt, alloc, members, pass, tree, words, crew_parts, &base, &cells, job,
-    )
+    let sites = run.tree.plan().sites();
+    let base = SharedBase::new(Base::new(run.alloc, sites)?);
+    let cells = cells(run.alloc, sites)?;
+    let job = body_job(run.alloc, accepted.program())?;
+    run_on(run, members, words, crew_parts, &base, &cells, job)
 }
 
 // Runs all harts on these cells, the first of them with this job. Returns the job's piece, unless an allocation failed there,
@@ -164,25 +155,22 @@ fn run_on<
     'x,
     'p: 'x,
     R: Threads + Wait + Sync,
-    F: Fn(u8, u16, u8, u8) + Sync,
+    F: Fn(u8, &Job<'p>) + Sync,
     P: PatientPort<Hold = ()> + Send + Drop,
 >(
-    rt: &'x R,
-    alloc: Global,
+    run: Run<'_, R, F>,
     members: TeamMode,
-    pass: &F,
-    tree: &SiteTree,
     words: &'x Claims,
     crew_parts: CrewParts<P>,
     base: &'x SharedBase,
     cells: &'x [OnceBox<SharedSite<'p>>],
     job: Job<'p>,
 ) -> Result<(Option<Piece<'p>>, CrewParts<P>), AllocError>
-    requires callable { F.IsAlwaysCallable pass.now }
+    requires callable { F.IsAlwaysCallable run.pass.now }
     requires some { 0 < vec_len crew_parts.ports }
     requires rows { vec_len crew_parts.rows ≡ vec_len crew_parts.ports }
     requires claims { vec_len crew_parts.claims ≡ vec_len crew_parts.ports }
-    requires starts { AllStart P.seen tree.now crew_parts.ports.items }
+    requires starts { AllStart P.seen run.tree.now crew_parts.ports.items }
     requires hart_local { AreHartLocals words.now.table crew_parts.rows.items crew_parts.claims.items }
     ensures piece { IfOk result (λ back. IfSome back.0 (λ piece. piece.job ≡ job.entry)) }
     ensures same { IfOk result
@@ -190,9 +178,9 @@ fn run_on<
     ensures hart_local { IfOk result
         (λ back. AreHartLocals words.now.table back.1.rows.items back.1.claims.items) }
 {
-    let mut harts = crew(alloc, members, words, crew_parts, base, cells)?;
-    let piece = run_crew(rt, alloc, pass, tree, harts.as_mut_slice(), job);
-    Ok((piece, crew_parts_of(alloc, harts)?))
+    let mut harts = crew(run.alloc, members, words, crew_parts, base, cells)?;
+    let piece = run_crew(run, harts.as_mut_slice(), job);
+    Ok((piece, crew_parts_of(run.alloc, harts)?))
 }
 
 // Runs each hart, the first of them with this job. Returns the job's piece, unless an allocation failed.
@@ -200,24 +188,21 @@ fn run_crew<
     'x,
     'p: 'x,
     R: Threads + Wait + Sync,
-    F: Fn(u8, u16, u8, u8) + Sync,
+    F: Fn(u8, &Job<'p>) + Sync,
     P: PatientPort<Hold = ()> + Send,
 >(
-    rt: &'x R,
-    alloc: Global,
-    pass: &F,
-    tree: &SiteTree,
+    run: Run<'_, R, F>,
     harts: &mut [Hart<'x, 'p, P, SharedSite<'p>>],
     job: Job<'p>,
 ) -> Option<Piece<'p>>
-    requires callable { F.IsAlwaysCallable pass.now }
+    requires callable { F.IsAlwaysCallable run.pass.now }
     requires some { 0 < length harts.old }
-    requires starts { AllStart (λ hart. P.seen hart.port) tree.now harts.old }
+    requires starts { AllStart (λ hart. P.seen hart.port) run.tree.now harts.old }
     ensures same { AreTheSame P.seen harts.old harts.new }
     ensures piece { IfSome result (λ piece. piece.job ≡ job.entry) }
 {
     harts[0].job = Some(job);
-    run_all(rt, alloc, tree, pass, harts);
+    run_all(run, harts);
     harts[0].piece.take()
 }
 
@@ -270,21 +255,15 @@ fn run_all<
     'x,
     'p: 'x,
     R: Threads + Wait + Sync,
-    F: Fn(u8, u16, u8, u8) + Sync,
+    F: Fn(u8, &Job<'p>) + Sync,
     P: PatientPort<Hold = ()> + Send,
->(
-    rt: &'x R,
-    alloc: Global,
-    tree: &SiteTree,
-    pass: &F,
-    harts: &mut [Hart<'x, 'p, P, SharedSite<'p>>],
-)
-    requires callable { F.IsAlwaysCallable pass.now }
-    requires starts { AllStart (λ hart. P.seen hart.port) tree.now harts.old }
+>(run: Run<'_, R, F>, harts: &mut [Hart<'x, 'p, P, SharedSite<'p>>])
+    requires callable { F.IsAlwaysCallable run.pass.now }
+    requires starts { AllStart (λ hart. P.seen hart.port) run.tree.now harts.old }
     ensures { HaveRun P.seen harts.old harts.new }
 {
     harts.reverse();
-    run_each(rt, alloc, tree, pass, harts);
+    run_each(run, harts);
     harts.reverse();
 }
 
@@ -293,27 +272,16 @@ fn run_each<
     'x,
     'p: 'x,
     R: Threads + Wait + Sync,
-    F: Fn(u8, u16, u8, u8) + Sync,
+    F: Fn(u8, &Job<'p>) + Sync,
     P: PatientPort<Hold = ()> + Send,
->(
-    rt: &'x R,
-    alloc: Global,
-    tree: &SiteTree,
-    pass: &F,
-    harts: &mut [Hart<'x, 'p, P, SharedSite<'p>>],
-)
-    requires callable { F.IsAlwaysCallable pass.now }
-    requires starts { AllStart (λ hart. P.seen hart.port) tree.now harts.old }
+>(run: Run<'_, R, F>, harts: &mut [Hart<'x, 'p, P, SharedSite<'p>>])
+    requires callable { F.IsAlwaysCallable run.pass.now }
+    requires starts { AllStart (λ hart. P.seen hart.port) run.tree.now harts.old }
     ensures { HaveRun P.seen harts.old harts.new }
 {
     // Why as many parts as harts: the harts of one part run one after another, and each waits for all others.
     let parts = harts.len().max(1);
-    thread::for_each_mut(
-        rt,
-        harts,
-        parts,
-        &|_, hart| work(rt, alloc, tree, pass, (), hart),
-    );
+    thread::for_each_mut(run.rt, harts, parts, &|_, hart| work(run, (), hart));
 }
 
 // What the harts give back, in their order.

@@ -7,10 +7,10 @@ use crate::harts::HartSites;
 use crate::in_directory::InDirectory;
 use array_jobs::{Job, Piece};
 use base_sched::SharedBase;
-use hart_work::{run_piece, serve};
+use hart_work::{Run, run_piece, serve};
 use shared_sites::HartLocal;
-use site_steps::{PatientPort, SiteTree, finish_base, sweep_if};
-use std::alloc::{AllocError, Global};
+use site_steps::{PatientPort, finish_base, sweep_if};
+use std::alloc::AllocError;
 use std::sync::Wait;
 
 /// The state of one hart. One of the harts has the program's body as its job, and in the end its piece, unless an allocation
@@ -49,71 +49,46 @@ impl<'a, 'p, P, S: Drop> Hart<'a, 'p, P, S> {
 ///
 /// It allocates what `run_piece` and `serve` of `hart_work` allocate. If an allocation for the hart's job fails, `hart.piece` is
 /// `None`.
-pub fn work<'a, 'p, P: PatientPort, R: Wait, S: InDirectory<'p>, F: Fn(u8, u16, u8, u8)>(
-    rt: &'a R,
-    alloc: Global,
-    tree: &SiteTree,
-    pass: &F,
+pub fn work<'a, 'p, P: PatientPort, R: Wait, S: InDirectory<'p>, F: Fn(u8, &Job<'p>)>(
+    run: Run<'_, R, F>,
     hold: P::Hold,
     hart: &mut Hart<'a, 'p, P, S>,
 )
-    requires callable { F.IsAlwaysCallable pass.now }
-    requires starts { StartsIn tree.now (P.seen hart.old.port) }
+    requires callable { F.IsAlwaysCallable run.pass.now }
+    requires starts { StartsIn run.tree.now (P.seen hart.old.port) }
     ensures { HasRun (P.seen hart.old.port) hart.old.sites.hart_local hart.old.job
         (P.seen hart.new.port) hart.new.sites.hart_local hart.new.piece }
 {
     match hart.job.take() {
         Some(job) => {
-            let piece = run_body(rt, alloc, tree, pass, hold, hart, job);
+            let piece = run_body(run, hold, hart, job);
             hart.piece = piece.ok();
         }
         None => {
             let mut base: HartSite<'a, 'p, S> = HartSite::base(hart.base);
-            serve(
-                rt,
-                alloc,
-                tree,
-                &|hart, job: &Job| pass(hart, job.site, job.phase, job.place),
-                &mut hart.port,
-                hold,
-                &mut hart.sites,
-                &mut base,
-            );
+            serve(run, &mut hart.port, hold, &mut hart.sites, &mut base);
         }
     }
 }
 
 // Runs the body, shuts the base, and waits until each top site is gone.
-fn run_body<'a, 'p, P: PatientPort, R: Wait, S: InDirectory<'p>, F: Fn(u8, u16, u8, u8)>(
-    rt: &'a R,
-    alloc: Global,
-    tree: &SiteTree,
-    pass: &F,
+fn run_body<'a, 'p, P: PatientPort, R: Wait, S: InDirectory<'p>, F: Fn(u8, &Job<'p>)>(
+    run: Run<'_, R, F>,
     hold: P::Hold,
     hart: &mut Hart<'a, 'p, P, S>,
     job: Job<'p>,
 ) -> Result<Piece<'p>, AllocError>
-    requires callable { F.IsAlwaysCallable pass.now }
-    requires starts { StartsIn tree.now (P.seen hart.old.port) }
+    requires callable { F.IsAlwaysCallable run.pass.now }
+    requires starts { StartsIn run.tree.now (P.seen hart.old.port) }
     ensures same { IsSameHart (P.seen hart.old.port) (P.seen hart.new.port) }
     ensures hart_local { hart.new.sites.hart_local ≡ hart.old.sites.hart_local }
     ensures gone { TopSitesSeenGone (P.seen hart.new.port) }
     ensures piece { IfOk result (λ piece. piece.job ≡ job.entry) }
 {
     let mut base: HartSite<'a, 'p, S> = HartSite::base(hart.base);
-    let piece = run_piece(
-        rt,
-        alloc,
-        tree,
-        &|hart, job: &Job| pass(hart, job.site, job.phase, job.place),
-        &mut hart.port,
-        hold,
-        &mut hart.sites,
-        &mut base,
-        job,
-    );
-    sweep_if(tree, &mut hart.port, hold, piece.is_err());
-    hart.base.shut(rt);
-    finish_base(tree, &mut hart.port, hold);
+    let piece = run_piece(run, &mut hart.port, hold, &mut hart.sites, &mut base, job);
+    sweep_if(run.tree, &mut hart.port, hold, piece.is_err());
+    hart.base.shut(run.rt);
+    finish_base(run.tree, &mut hart.port, hold);
     piece
 }

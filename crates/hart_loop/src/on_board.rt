@@ -9,11 +9,13 @@ ghost use Rattle.lent_board.specs.Of.{IsOf};
 use crate::crew::run_ports;
 use crate::members::TeamMode;
 use array_eval::Store;
+use array_jobs::Job;
 use board_rule::Laid;
 use disjoint_check::Accepted;
+use hart_work::Run;
 use lent_board::{Board, BoardPort, Closed, HartSeat};
 use lone_hart::store_after;
-use site_steps::{SiteTree, WaitingPort};
+use site_steps::WaitingPort;
 use std::alloc::{AllocError, Global};
 use std::sync::Wait;
 use std::thread::Threads;
@@ -28,26 +30,23 @@ use std::thread::Threads;
 /// # Memory
 ///
 /// It allocates the board, its journal, and as `run_ports` does.
-pub fn on_board<L: Laid + Sync, R: Threads + Wait + Sync, F: Fn(u8, u16, u8, u8) + Sync>(
-    rt: &R,
-    alloc: Global,
-    accepted: &Accepted<'_>,
+pub fn on_board<'p, L: Laid + Sync, R: Threads + Wait + Sync, F: Fn(u8, &Job<'p>) + Sync>(
+    run: Run<'_, R, F>,
+    accepted: &Accepted<'p>,
     members: TeamMode,
-    pass: &F,
-    tree: &SiteTree,
 ) -> Result<(Store, Closed<L>), AllocError>
-    requires callable { F.IsAlwaysCallable pass.now }
+    requires callable { F.IsAlwaysCallable run.pass.now }
     requires few_harts { HasRoom L.layout accepted.now.plan.harts }
-    requires tree { tree.now ≡ accepted.now.plan }
+    requires tree { run.tree.now ≡ accepted.now.plan }
     ensures store { IfOk result (λ r. r.0 ≡ final_store (program_of accepted.now.program)) }
     ensures short { IfOk result (λ r. length r.1 ≤ most_entries) }
 {
-    let (board, seats) = Board::<L>::new(alloc, accepted.plan())?;
-    let ports = ports_of(rt, alloc, &board, seats)?;
-    let (piece, ports) = run_ports(rt, alloc, accepted, members, pass, tree, ports)?;
+    let (board, seats) = Board::<L>::new(run.alloc, accepted.plan())?;
+    let ports = ports_of(run.rt, run.alloc, &board, seats)?;
+    let (piece, ports) = run_ports(run, accepted, members, ports)?;
     let store = store_after(piece)?;
-    let seats = seats_of(alloc, ports)?;
-    match board.close(alloc, seats) {
+    let seats = seats_of(run.alloc, ports)?;
+    match board.close(run.alloc, seats) {
         Ok(closed) => Ok((store, closed)),
         Err(_) => Err(AllocError),
     }

@@ -7,11 +7,13 @@ ghost use Rattle.lone_hart.specs.Journals.{entries_in, IsListed};
 
 use crate::crew::run_ports;
 use crate::members::TeamMode;
+use array_jobs::Job;
 use disjoint_check::Accepted;
 use hart_port::PlainPort;
+use hart_work::Run;
 use lone_hart::{Journal, Outcome, store_after};
-use site_steps::{SiteTree, WaitingPort};
-use std::alloc::{AllocError, Global};
+use site_steps::WaitingPort;
+use std::alloc::AllocError;
 use std::sync::Wait;
 use std::thread::Threads;
 
@@ -25,26 +27,23 @@ use std::thread::Threads;
 /// # Memory
 ///
 /// It allocates the port and its journal, and as `run_ports` does.
-pub fn on_plain_port<R: Threads + Wait + Sync, F: Fn(u8, u16, u8, u8) + Sync>(
-    rt: &R,
-    alloc: Global,
-    accepted: &Accepted<'_>,
+pub fn on_plain_port<'p, R: Threads + Wait + Sync, F: Fn(u8, &Job<'p>) + Sync>(
+    run: Run<'_, R, F>,
+    accepted: &Accepted<'p>,
     members: TeamMode,
-    pass: &F,
-    tree: &SiteTree,
 ) -> Result<Outcome, AllocError>
-    requires callable { F.IsAlwaysCallable pass.now }
+    requires callable { F.IsAlwaysCallable run.pass.now }
     requires one { accepted.now.plan.harts ≡ 1 }
-    requires tree { tree.now ≡ accepted.now.plan }
+    requires tree { run.tree.now ≡ accepted.now.plan }
     ensures store { IfOk result
         (λ outcome. outcome.store ≡ final_store (program_of accepted.now.program)) }
     ensures short { IfOk result (λ outcome. length (entries_in outcome.journal) ≤ most_entries) }
     ensures listed { IfOk result (λ outcome. IsListed outcome.journal) }
 {
-    let port = PlainPort::new(alloc, tree.plan())?;
-    let mut ports = Vec::with_capacity(alloc, 1)?;
-    ports.push(WaitingPort::new(port, rt))?;
-    let (piece, mut ports) = run_ports(rt, alloc, accepted, members, pass, tree, ports)?;
+    let port = PlainPort::new(run.alloc, run.tree.plan())?;
+    let mut ports = Vec::with_capacity(run.alloc, 1)?;
+    ports.push(WaitingPort::new(port, run.rt))?;
+    let (piece, mut ports) = run_ports(run, accepted, members, ports)?;
     let store = store_after(piece)?;
     let Some(port) = ports.pop() else {
         unreachable!()

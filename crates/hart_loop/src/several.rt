@@ -11,8 +11,10 @@ ghost use Rattle.lone_hart.specs.Journals.{entries_in, IsListed, IsBoard, IsWide
 use crate::members::TeamMode;
 use crate::on_board::on_board;
 use crate::on_plain_port::on_plain_port;
+use array_jobs::Job;
 use disjoint_check::Accepted;
 use entered_sites::entered_by;
+use hart_work::Run;
 use lone_hart::{Journal, Outcome};
 use outside_io::Gate;
 use site_steps::SiteTree;
@@ -98,10 +100,10 @@ pub fn run_piped<R: Threads + Wait + Sync, G: Gate>(
 }
 
 // Runs the program until its journal is complete.
-fn run_tested<R: Threads + Wait + Sync, G: Gate>(
+fn run_tested<'p, R: Threads + Wait + Sync, G: Gate>(
     rt: &R,
     alloc: Global,
-    accepted: &Accepted<'_>,
+    accepted: &Accepted<'p>,
     members: TeamMode,
     gate: &G,
 ) -> Result<Outcome, AllocError>
@@ -118,9 +120,15 @@ fn run_tested<R: Threads + Wait + Sync, G: Gate>(
     ensures short { IfOk result (λ outcome. length (entries_in outcome.journal) ≤ most_entries) }
 {
     let tree = SiteTree::new(alloc, accepted.plan())?;
-    let pass = |hart, site, phase, place| gate.passed(rt, hart, site, phase, place);
+    let pass = |hart: u8, job: &Job| gate.passed(rt, hart, job.site, job.phase, job.place);
+    let run = Run {
+        rt,
+        alloc,
+        tree: &tree,
+        pass: &pass,
+    };
     for _ in rt.forever() {
-        let outcome = run_once(rt, alloc, accepted, members, &pass, &tree)?;
+        let outcome = run_once(run, accepted, members)?;
         if is_complete(alloc, accepted, outcome.journal.entries())? {
             return Ok(outcome);
         }
@@ -129,16 +137,13 @@ fn run_tested<R: Threads + Wait + Sync, G: Gate>(
 }
 
 // A run of the program, by ports of its own.
-fn run_once<R: Threads + Wait + Sync, F: Fn(u8, u16, u8, u8) + Sync>(
-    rt: &R,
-    alloc: Global,
-    accepted: &Accepted<'_>,
+fn run_once<'p, R: Threads + Wait + Sync, F: Fn(u8, &Job<'p>) + Sync>(
+    run: Run<'_, R, F>,
+    accepted: &Accepted<'p>,
     members: TeamMode,
-    pass: &F,
-    tree: &SiteTree,
 ) -> Result<Outcome, AllocError>
-    requires callable { F.IsAlwaysCallable pass.now }
-    requires tree { tree.now ≡ accepted.now.plan }
+    requires callable { F.IsAlwaysCallable run.pass.now }
+    requires tree { run.tree.now ≡ accepted.now.plan }
     ensures store { IfOk result
         (λ outcome. outcome.store ≡ final_store (program_of accepted.now.program)) }
     ensures listed { IfOk result
@@ -151,13 +156,13 @@ fn run_once<R: Threads + Wait + Sync, F: Fn(u8, u16, u8, u8) + Sync>(
 {
     let harts = accepted.plan().harts();
     if harts == 1 {
-        on_plain_port(rt, alloc, accepted, members, pass, tree)
+        on_plain_port(run, accepted, members)
     } else if harts <= MOST_ON_WORDS {
-        let (store, closed) = on_board(rt, alloc, accepted, members, pass, tree)?;
+        let (store, closed) = on_board(run, accepted, members)?;
         let journal = Journal::Board(closed);
         Ok(Outcome { store, journal })
     } else {
-        let (store, closed) = on_board(rt, alloc, accepted, members, pass, tree)?;
+        let (store, closed) = on_board(run, accepted, members)?;
         let journal = Journal::Wide(closed);
         Ok(Outcome { store, journal })
     }

@@ -16,6 +16,7 @@ ghost use Rattle.hart_work.specs.Sites.{Stays, HasAccount, HasEntered};
 use crate::at::At;
 use crate::found::Found;
 use crate::machines::Machines;
+use crate::run::Run;
 use crate::sites::Sites;
 use contexts::{Running, Step, ctx_fini, ctx_pause, ctx_resume};
 use hart_port::Port;
@@ -24,7 +25,7 @@ use sched_api::{
     sched_yield,
 };
 use site_steps::{PatientPort, SiteTree, finish_site, skip_sites, sweep_if};
-use std::alloc::{AllocError, Global};
+use std::alloc::AllocError;
 
 /// Runs a job of the site that the hart is in, and returns the hart to it.
 ///
@@ -37,18 +38,15 @@ use std::alloc::{AllocError, Global};
 /// It allocates the machine and its overlay.
 #[cycle(serve)]
 pub fn run_piece<P: PatientPort, R, M: Machines, H: Sites<R, M>, F: Fn(u8, &M::Job)>(
-    rt: &R,
-    alloc: Global,
-    tree: &SiteTree,
-    pass: &F,
+    run: Run<'_, R, F>,
     port: &mut P,
     hold: P::Hold,
     sites: &mut H,
     around: &mut H::Site,
     job: M::Job,
 ) -> Result<M::Piece, AllocError>
-    requires plan { (P.seen port.old).plan ≡ tree.now }
-    requires callable { F.IsAlwaysCallable pass.now }
+    requires plan { (P.seen port.old).plan ≡ run.tree.now }
+    requires callable { F.IsAlwaysCallable run.pass.now }
     requires inner { IsSettled (P.seen port.old) }
     requires fresh { WhereAlone (P.seen port.old) (λ p around es. H.keeps × M.fresh_job p around es job) }
     ensures back { IsBack (P.seen port.old) (P.seen port.new) }
@@ -58,22 +56,20 @@ pub fn run_piece<P: PatientPort, R, M: Machines, H: Sites<R, M>, F: Fn(u8, &M::J
     ensures stays { Stays H.facts around.old around.new }
     ensures hart_local { H.hart_local sites.new ≡ H.hart_local sites.old }
 {
-    let mut running = M::start(alloc, job)?;
+    let mut running = M::start(run.alloc, job)?;
     'steps: loop {
         match M::step(&mut running) {
             Step::More => {}
             Step::Nest(Found::Nest(nested)) => {
                 let paused = ctx_pause(running);
-                let written = run_construct(
-                    rt, alloc, tree, pass, port, hold, sites, around, nested,
-                );
+                let written = run_construct(run, port, hold, sites, around, nested);
                 running = ctx_resume(paused);
                 if supply::<M>(&mut running, written).is_err() {
                     let _ = running.abandon();
                     return Err(AllocError);
                 }
             }
-            Step::Nest(Found::Pass { first, end }) => skip_span(tree, port, hold, first, end),
+            Step::Nest(Found::Pass { first, end }) => skip_span(run.tree, port, hold, first, end),
             Step::Finished => return Ok(M::end(ctx_fini(running).into_machine())),
             Step::NoMemory => {
                 let _ = running.abandon();
@@ -97,18 +93,15 @@ pub fn run_piece<P: PatientPort, R, M: Machines, H: Sites<R, M>, F: Fn(u8, &M::J
 /// It allocates the scheduler of the site, and what its pieces allocate.
 #[cycle(serve)]
 pub fn run_construct<P: PatientPort, R, M: Machines, H: Sites<R, M>, F: Fn(u8, &M::Job)>(
-    rt: &R,
-    alloc: Global,
-    tree: &SiteTree,
-    pass: &F,
+    run: Run<'_, R, F>,
     port: &mut P,
     hold: P::Hold,
     sites: &mut H,
     around: &mut H::Site,
     nested: M::Nested,
 ) -> Result<M::Written, AllocError>
-    requires plan { (P.seen port.old).plan ≡ tree.now }
-    requires callable { F.IsAlwaysCallable pass.now }
+    requires plan { (P.seen port.old).plan ≡ run.tree.now }
+    requires callable { F.IsAlwaysCallable run.pass.now }
     requires inner { IsSettled (P.seen port.old) }
     requires fresh { WhereAlone (P.seen port.old) (λ p around es. H.keeps × M.fresh p around es nested) }
     ensures back { IsBack (P.seen port.old) (P.seen port.new) }
@@ -119,33 +112,24 @@ pub fn run_construct<P: PatientPort, R, M: Machines, H: Sites<R, M>, F: Fn(u8, &
     ensures hart_local { H.hart_local sites.new ≡ H.hart_local sites.old }
 {
     let number = M::number(&nested);
-    if !tree.is_child(port.owner(), number) {
-        return M::compute(alloc, nested);
+    if !run.tree.is_child(port.owner(), number) {
+        return M::compute(run.alloc, nested);
     }
-    let mut site = sites.open(alloc, &nested)?;
-    let claim = sched_register(port, hold, &mut At::new(rt, sites, around), (), number);
+    let mut site = sites.open(run.alloc, &nested)?;
+    let claim = sched_register(port, hold, &mut At::new(run.rt, sites, around), (), number);
     match claim {
         Ok(_) => {
-            sites.offer(rt, &site);
-            ask(
-                rt,
-                tree,
-                port,
-                hold,
-                sites,
-                around,
-                number,
-                sites.wishes(&site),
-            );
-            serve(rt, alloc, tree, pass, port, hold, sites, &mut site);
-            sweep_if(tree, port, hold, sites.has_failed(rt, &site));
-            finish_site(tree, port, hold);
-            sched_unregister(port, hold, &mut At::new(rt, sites, around), ());
-            sites.take(rt, alloc, site)
+            sites.offer(run.rt, &site);
+            ask(run, port, hold, sites, around, number, sites.wishes(&site));
+            serve(run, port, hold, sites, &mut site);
+            sweep_if(run.tree, port, hold, sites.has_failed(run.rt, &site));
+            finish_site(run.tree, port, hold);
+            sched_unregister(port, hold, &mut At::new(run.rt, sites, around), ());
+            sites.take(run.rt, run.alloc, site)
         }
         Err(_) => {
             port.until_gone(hold, number);
-            M::compute(alloc, nested)
+            M::compute(run.alloc, nested)
         }
     }
 }
@@ -158,17 +142,14 @@ pub fn run_construct<P: PatientPort, R, M: Machines, H: Sites<R, M>, F: Fn(u8, &
 /// allocation for a job fails, the job's piece is reported as failed, and the call goes on.
 #[cycle(serve)]
 pub fn serve<P: PatientPort, R, M: Machines, H: Sites<R, M>, F: Fn(u8, &M::Job)>(
-    rt: &R,
-    alloc: Global,
-    tree: &SiteTree,
-    pass: &F,
+    run: Run<'_, R, F>,
     port: &mut P,
     hold: P::Hold,
     sites: &mut H,
     site: &mut H::Site,
 )
-    requires plan { (P.seen port.old).plan ≡ tree.now }
-    requires callable { F.IsAlwaysCallable pass.now }
+    requires plan { (P.seen port.old).plan ≡ run.tree.now }
+    requires callable { F.IsAlwaysCallable run.pass.now }
     requires inner { IsSettled (P.seen port.old) }
     requires settled { H.facts.settled site.old }
     requires serving { WhereAlone (P.seen port.old)
@@ -184,10 +165,10 @@ pub fn serve<P: PatientPort, R, M: Machines, H: Sites<R, M>, F: Fn(u8, &M::Job)>
     ensures hart_local { H.hart_local sites.new ≡ H.hart_local sites.old }
 {
     'tasks: loop {
-        let next = sched_reenter(&mut At::new(rt, sites, site), ());
+        let next = sched_reenter(&mut At::new(run.rt, sites, site), ());
         match next {
-            Next::Run(job) => run_job(rt, alloc, tree, pass, port, hold, sites, site, job),
-            Next::Lend(child) => visit(rt, alloc, tree, pass, port, hold, sites, site, child),
+            Next::Run(job) => run_job(run, port, hold, sites, site, job),
+            Next::Lend(child) => visit(run, port, hold, sites, site, child),
             Next::Nothing => return,
         }
     }
@@ -196,18 +177,15 @@ pub fn serve<P: PatientPort, R, M: Machines, H: Sites<R, M>, F: Fn(u8, &M::Job)>
 // Runs a job, and puts its piece into the site's book.
 #[cycle(serve)]
 fn run_job<P: PatientPort, R, M: Machines, H: Sites<R, M>, F: Fn(u8, &M::Job)>(
-    rt: &R,
-    alloc: Global,
-    tree: &SiteTree,
-    pass: &F,
+    run: Run<'_, R, F>,
     port: &mut P,
     hold: P::Hold,
     sites: &mut H,
     site: &mut H::Site,
     job: M::Job,
 )
-    requires plan { (P.seen port.old).plan ≡ tree.now }
-    requires callable { F.IsAlwaysCallable pass.now }
+    requires plan { (P.seen port.old).plan ≡ run.tree.now }
+    requires callable { F.IsAlwaysCallable run.pass.now }
     requires inner { IsSettled (P.seen port.old) }
     requires owed { H.facts.owed site.old job }
     requires fresh { WhereAlone (P.seen port.old) (λ p around es. H.keeps × M.fresh_job p around es job) }
@@ -221,43 +199,40 @@ fn run_job<P: PatientPort, R, M: Machines, H: Sites<R, M>, F: Fn(u8, &M::Job)>(
     ensures hart_local { H.hart_local sites.new ≡ H.hart_local sites.old }
 {
     let (phase, place) = (M::phase(&job), M::place(&job));
-    pass(port.hart(), &job);
-    match run_piece(rt, alloc, tree, pass, port, hold, sites, site, job) {
-        Ok(piece) => sites.deposit(rt, alloc, site, piece),
-        Err(AllocError) => sites.fail(rt, site, phase, place),
+    (run.pass)(port.hart(), &job);
+    match run_piece(run, port, hold, sites, site, job) {
+        Ok(piece) => sites.deposit(run.rt, run.alloc, site, piece),
+        Err(AllocError) => sites.fail(run.rt, site, phase, place),
     }
 }
 
 // Enters a child that wants a hart and that another hart opened, runs its tasks, and returns.
 #[cycle(serve)]
 fn visit<P: PatientPort, R, M: Machines, H: Sites<R, M>, F: Fn(u8, &M::Job)>(
-    rt: &R,
-    alloc: Global,
-    tree: &SiteTree,
-    pass: &F,
+    run: Run<'_, R, F>,
     port: &mut P,
     hold: P::Hold,
     sites: &mut H,
     around: &mut H::Site,
     child: u16,
 )
-    requires plan { (P.seen port.old).plan ≡ tree.now }
-    requires callable { F.IsAlwaysCallable pass.now }
+    requires plan { (P.seen port.old).plan ≡ run.tree.now }
+    requires callable { F.IsAlwaysCallable run.pass.now }
     requires inner { IsSettled (P.seen port.old) }
     requires shared { (P.seen port.old).alone ≡ false }
     ensures back { IsBack (P.seen port.old) (P.seen port.new) }
     ensures stays { Stays H.facts around.old around.new }
     ensures hart_local { H.hart_local sites.new ≡ H.hart_local sites.old }
 {
-    if !tree.is_child(port.owner(), child) {
+    if !run.tree.is_child(port.owner(), child) {
         return;
     }
-    let Some(mut site) = sites.find(rt, child) else {
+    let Some(mut site) = sites.find(run.rt, child) else {
         return;
     };
-    if let Some(next) = enter(rt, port, hold, sites, &mut site) {
-        be_guest(rt, alloc, tree, pass, port, hold, sites, &mut site, next);
-        sched_yield(port, hold, &mut At::new(rt, sites, around), ());
+    if let Some(next) = enter(run.rt, port, hold, sites, &mut site) {
+        be_guest(run, port, hold, sites, &mut site, next);
+        sched_yield(port, hold, &mut At::new(run.rt, sites, around), ());
     }
 }
 
@@ -297,18 +272,15 @@ fn enter<P: PatientPort, R, M: Machines, H: Sites<R, M>>(
 // Does what the site gave the hart to do as it entered, and then the rest.
 #[cycle(serve)]
 fn be_guest<P: PatientPort, R, M: Machines, H: Sites<R, M>, F: Fn(u8, &M::Job)>(
-    rt: &R,
-    alloc: Global,
-    tree: &SiteTree,
-    pass: &F,
+    run: Run<'_, R, F>,
     port: &mut P,
     hold: P::Hold,
     sites: &mut H,
     site: &mut H::Site,
     next: Next<M::Job>,
 )
-    requires plan { (P.seen port.old).plan ≡ tree.now }
-    requires callable { F.IsAlwaysCallable pass.now }
+    requires plan { (P.seen port.old).plan ≡ run.tree.now }
+    requires callable { F.IsAlwaysCallable run.pass.now }
     requires inner { IsSettled (P.seen port.old) }
     requires shared { (P.seen port.old).alone ≡ false }
     requires account { HasAccount (H.facts.settled site.old) (H.facts.owed site.old) next }
@@ -316,11 +288,11 @@ fn be_guest<P: PatientPort, R, M: Machines, H: Sites<R, M>, F: Fn(u8, &M::Job)>(
     ensures hart_local { H.hart_local sites.new ≡ H.hart_local sites.old }
 {
     match next {
-        Next::Run(job) => run_job(rt, alloc, tree, pass, port, hold, sites, site, job),
-        Next::Lend(child) => visit(rt, alloc, tree, pass, port, hold, sites, site, child),
+        Next::Run(job) => run_job(run, port, hold, sites, site, job),
+        Next::Lend(child) => visit(run, port, hold, sites, site, child),
         Next::Nothing => {}
     }
-    serve(rt, alloc, tree, pass, port, hold, sites, site);
+    serve(run, port, hold, sites, site);
 }
 
 // Skips the sites that a step passes: each child of the owner among them, unless the port refuses its skip. If the hart is
@@ -341,9 +313,8 @@ fn skip_span<P: PatientPort>(tree: &SiteTree, port: &mut P, hold: P::Hold, first
 }
 
 // Requests as many harts as the site has work for and the plan has besides this one.
-fn ask<P: PatientPort, R, M: Machines, H: Sites<R, M>>(
-    rt: &R,
-    tree: &SiteTree,
+fn ask<P: PatientPort, R, M: Machines, H: Sites<R, M>, F>(
+    run: Run<'_, R, F>,
     port: &mut P,
     hold: P::Hold,
     sites: &mut H,
@@ -351,8 +322,8 @@ fn ask<P: PatientPort, R, M: Machines, H: Sites<R, M>>(
     site: u16,
     most: u8,
 )
-    requires plan { (P.seen port.old).plan ≡ tree.now }
-    requires known { IsSite tree.now site }
+    requires plan { (P.seen port.old).plan ≡ run.tree.now }
+    requires known { IsSite run.tree.now site }
     requires inside { (P.seen port.old).owner ≡ site }
     requires home { is_in (P.seen port.old).homes site ≡ true }
     requires is_open { is_in (P.seen port.old).closed site ≡ false }
@@ -364,9 +335,16 @@ fn ask<P: PatientPort, R, M: Machines, H: Sites<R, M>>(
     ensures stays { Stays H.facts around.old around.new }
     ensures hart_local { H.hart_local sites.new ≡ H.hart_local sites.old }
 {
-    let count = most.min(tree.plan().harts() - 1);
+    let count = most.min(run.tree.plan().harts() - 1);
     if count >= 1 {
-        sched_request(port, hold, &mut At::new(rt, sites, around), (), site, count);
+        sched_request(
+            port,
+            hold,
+            &mut At::new(run.rt, sites, around),
+            (),
+            site,
+            count,
+        );
     }
 }
 

@@ -21,7 +21,7 @@ use array_jobs::{Job, Piece, body_job};
 use base_sched::Base;
 use disjoint_check::Accepted;
 use hart_port::PlainPort;
-use hart_work::run_piece;
+use hart_work::{Run, run_piece};
 use site_steps::SiteTree;
 use std::alloc::{AllocError, Global};
 
@@ -79,19 +79,16 @@ fn run_body<'p>(
 {
     let job = body_job(alloc, accepted.program())?;
     let mut base = LoneSite::Base(Base::new(alloc, tree.plan().sites())?);
-    run_piece(
+    // The gate of a single hart does nothing.
+    let pass = |_: u8, _: &Job| {};
+    let run = Run {
         // Why: there is no runtime, and nothing blocks.
-        &(),
+        rt: &(),
         alloc,
         tree,
-        // The gate of a single hart does nothing.
-        &|_, _| {},
-        port,
-        (),
-        &mut LoneSites::new(),
-        &mut base,
-        job,
-    )
+        pass: &pass,
+    };
+    run_piece(run, port, (), &mut LoneSites::new(), &mut base, job)
 }
 
 /// The store after the piece of a program's body.

@@ -12,7 +12,7 @@ use deque_rows::rows;
 use disjoint_check::{Accepted, check};
 use hart_loop::{Hart, HartSite, HartSites, TeamMode, work};
 use hart_port::{Ledger, LockedPort};
-use hart_work::{Sites, run_construct};
+use hart_work::{Run, Sites, run_construct};
 use job_machines::JobMachines;
 use loop_team::ClaimSeat;
 use once_cell::race::OnceBox;
@@ -86,24 +86,16 @@ fn crew<'x, 'p: 'x, R: Threads + Wait + Sync>(
 }
 
 // Runs each hart on a thread, the last of them on the current one.
-fn run_each<'x, 'p: 'x, R: Threads + Wait + Sync, F: Fn(u8, u16, u8, u8) + Sync>(
-    rt: &'x R,
-    alloc: Global,
-    tree: &SiteTree,
-    pass: &F,
+fn run_each<'x, 'p: 'x, R: Threads + Wait + Sync, F: Fn(u8, &Job<'p>) + Sync>(
+    run: Run<'x, R, F>,
     harts: &mut [Hart<'x, 'p, WaitingPort<'x, LockedPort<'x, R>, R>, SharedSite<'p>>],
 )
-    requires callable { F.IsAlwaysCallable pass.now }
-    requires starts { All (λ hart. StartsIn tree.now hart.port.port.view) harts.old }
+    requires callable { F.IsAlwaysCallable run.pass.now }
+    requires starts { All (λ hart. StartsIn run.tree.now hart.port.port.view) harts.old }
 {
     // Why as many parts as harts: the harts of one part run one after another, and each waits for all others.
     let parts = harts.len().max(1);
-    thread::for_each_mut(
-        rt,
-        harts,
-        parts,
-        &|_, hart| work(rt, alloc, tree, pass, rt, hart),
-    );
+    thread::for_each_mut(run.rt, harts, parts, &|_, hart| work(run, run.rt, hart));
 }
 
 // The piece of the hart that is last in the list.
@@ -126,6 +118,13 @@ fn run_body<'x, 'p: 'x, R: Threads + Wait + Sync>(
     requires { accepted.now.plan.harts ≤ 4 }
 {
     let tree = SiteTree::new(alloc, accepted.plan())?;
+    let pass = |_: u8, _: &Job| {};
+    let run = Run {
+        rt,
+        alloc,
+        tree: &tree,
+        pass: &pass,
+    };
     let job = body_job(alloc, accepted.program())?;
     let mut harts = crew(
         rt,
@@ -137,7 +136,7 @@ fn run_body<'x, 'p: 'x, R: Threads + Wait + Sync>(
         hart_local,
         job,
     )?;
-    run_each(rt, alloc, &tree, &|_, _, _, _| {}, harts.as_mut_slice());
+    run_each(run, harts.as_mut_slice());
     Ok(last_piece(harts.as_mut_slice()).ok_or("want of memory")?)
 }
 
@@ -271,7 +270,14 @@ fn run_whole<'x, 'p: 'x, R: Threads + Wait + Sync>(
         hart_local,
         Some(job),
     )?;
-    work(rt, alloc, tree, &|_, _, _, _| {}, rt, &mut first);
+    let pass = |_: u8, _: &Job| {};
+    let run = Run {
+        rt,
+        alloc,
+        tree,
+        pass: &pass,
+    };
+    work(run, rt, &mut first);
     Ok(())
 }
 
@@ -295,17 +301,14 @@ fn run_first<'x, 'p: 'x, R: Threads + Wait + Sync>(
     let mut port = WaitingPort::new(LockedPort::new(alloc, lock, plan, 1)?, rt);
     let mut sites = HartSites::new(lines(alloc, cells)?, hart_local, TeamMode::Wait);
     let mut around: HartSite<'x, 'p, SharedSite<'p>> = HartSite::base(base);
-    Ok(run_construct(
+    let pass = |_: u8, _: &Job| {};
+    let run = Run {
         rt,
         alloc,
         tree,
-        &|_, _| {},
-        &mut port,
-        rt,
-        &mut sites,
-        &mut around,
-        nested,
-    )?)
+        pass: &pass,
+    };
+    Ok(run_construct(run, &mut port, rt, &mut sites, &mut around, nested)?)
 }
 
 // Whether a hart that reaches the first construct after its site was registered and unregistered writes both branches,

@@ -11,7 +11,7 @@ pub run_crew-piece-requires-clause-starts : goal.run_crew-piece-requires-clause-
 run_crew-piece-requires-clause-starts g c κs within =
     let seen = g.P.Port.seen in
     let are = ap (map port_of) c.as_mut_slice.ensures.value ∙ c.in_ok-harts.ensures.ports in
-    all_of_map port_of (λ port. StartsIn c.args.tree.now (seen port)) c.as_mut_slice.result.now (subst (All (λ port. StartsIn c.args.tree.now (seen port))) (sym are) c.requires.starts)
+    all_of_map port_of (λ port. StartsIn c.args.run.tree.now (seen port)) c.as_mut_slice.result.now (subst (All (λ port. StartsIn c.args.run.tree.now (seen port))) (sym are) c.requires.starts)
 
 pub returns-clause-same : goal.returns-clause-same
 returns-clause-same g c =

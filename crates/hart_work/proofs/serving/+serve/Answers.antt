@@ -25,7 +25,7 @@ run_construct-until_gone-requires-clause-over g t c =
     let s = c.number-number.result in
     let yes : c.is_child.result ≡ true = search rules in
     let is = c.is_child.ensures.0 yes in
-    let child = child_of c.args.tree.now h s c.owner.result c.requires.plan c.owner.ensures.same is.0 is.1 in
+    let child = child_of c.args.run.tree.now h s c.owner.result c.requires.plan c.owner.ensures.same is.0 is.1 in
     refused_over h a s c.in-Err.ensures.kept child.0 child.1 c.in-Err.ensures.does.0.0 c.in-Err.ensures.does.0.2
 
 pub run_construct-returns-in-Ok-clause-back : goal.run_construct-returns-in-Ok-clause-back
@@ -39,7 +39,7 @@ run_construct-returns-in-Ok-clause-back g t c =
     let s = c.number-number.result in
     let yes : c.is_child.result ≡ true = search rules in
     let is_one = c.is_child.ensures.0 yes in
-    let child = child_of c.args.tree.now h s c.owner.result c.requires.plan c.owner.ensures.same is_one.0 is_one.1 in
+    let child = child_of c.args.run.tree.now h s c.owner.result c.requires.plan c.owner.ensures.same is_one.0 is_one.1 in
     let back = back_then a served settled (back_then a asked served c.ask.ensures.back c.serve.ensures.back) c.sweep_if.ensures.back in
     let all = back_over h a settled done s c.owner.ensures.kept.plan child.0 child.1 c.requires.inner c.in-Ok.ensures.does.0.0 back c.finish_site.ensures.looked in
     subst (IsBack h) (sym c.sched_unregister.ensures.does) all.0
@@ -144,7 +144,7 @@ visit-returns-in-Some-enter-clause-back g t c =
     let s = c.args.child in
     let yes : c.is_child.result ≡ true = search rules in
     let is_one = c.is_child.ensures.0 yes in
-    let child = child_of c.args.tree.now h s c.owner.result c.requires.plan c.owner.ensures.same is_one.0 is_one.1 in
+    let child = child_of c.args.run.tree.now h s c.owner.result c.requires.plan c.owner.ensures.same is_one.0 is_one.1 in
     let inside : a ≡ entered h s = subst (λ k. a ≡ entered h k) (c.in-Some.ensures.number c.in-Some.site refl) c.in-Some-enter.ensures.does in
     subst (IsBack h) (sym c.sched_yield.ensures.does) (back_visited h a served s c.owner.ensures.kept.plan child.0 child.1 c.requires.inner inside c.be_guest.ensures.back)
 

@@ -8,22 +8,22 @@ use Rattle.hart_work.proofs.serving.+serve.Given as goal
 
 -- Each site is above the one around it. At one site a hart is a guest, serves, runs a job, runs its piece, then a construct.
 abbrev pub decreases-be_guest : goal.decreases-be_guest
-decreases-be_guest g l = 5 * (site_count l.tree.now - (g.P.Port.seen l.port.now).owner) + 4
+decreases-be_guest g l = 5 * (site_count l.run.tree.now - (g.P.Port.seen l.port.now).owner) + 4
 
 abbrev pub decreases-serve : goal.decreases-serve
-decreases-serve g l = 5 * (site_count l.tree.now - (g.P.Port.seen l.port.now).owner) + 3
+decreases-serve g l = 5 * (site_count l.run.tree.now - (g.P.Port.seen l.port.now).owner) + 3
 
 abbrev pub decreases-run_job : goal.decreases-run_job
-decreases-run_job g l = 5 * (site_count l.tree.now - (g.P.Port.seen l.port.now).owner) + 2
+decreases-run_job g l = 5 * (site_count l.run.tree.now - (g.P.Port.seen l.port.now).owner) + 2
 
 abbrev pub decreases-run_piece : goal.decreases-run_piece
-decreases-run_piece g l = 5 * (site_count l.tree.now - (g.P.Port.seen l.port.now).owner) + 1
+decreases-run_piece g l = 5 * (site_count l.run.tree.now - (g.P.Port.seen l.port.now).owner) + 1
 
 abbrev pub decreases-run_construct : goal.decreases-run_construct
-decreases-run_construct g l = 5 * (site_count l.tree.now - (g.P.Port.seen l.port.now).owner)
+decreases-run_construct g l = 5 * (site_count l.run.tree.now - (g.P.Port.seen l.port.now).owner)
 
 abbrev pub decreases-visit : goal.decreases-visit
-decreases-visit g l = 5 * (site_count l.tree.now - (g.P.Port.seen l.port.now).owner)
+decreases-visit g l = 5 * (site_count l.run.tree.now - (g.P.Port.seen l.port.now).owner)
 
 abbrev pub invariant-serve-tasks : goal.invariant-serve-tasks
 invariant-serve-tasks g l = record {
