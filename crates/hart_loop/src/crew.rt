@@ -146,64 +146,9 @@ fn run_lent<
     let base = SharedBase::new(Base::new(run.alloc, sites)?);
     let cells = cells(run.alloc, sites)?;
     let job = body_job(run.alloc, accepted.program())?;
-    run_on(run, members, words, crew_parts, &base, &cells, job)
-}
-
-// Runs all harts on these cells, the first of them with this job. Returns the job's piece, unless an allocation failed there,
-// and what the harts gave back.
-fn run_on<
-    'x,
-    'p: 'x,
-    R: Threads + Wait + Sync,
-    F: Fn(u8, &Job<'p>) + Sync,
-    P: PatientPort<Hold = ()> + Send + Drop,
->(
-    run: Run<'_, R, F>,
-    members: TeamMode,
-    words: &'x Claims,
-    crew_parts: CrewParts<P>,
-    base: &'x SharedBase,
-    cells: &'x [OnceBox<SharedSite<'p>>],
-    job: Job<'p>,
-) -> Result<(Option<Piece<'p>>, CrewParts<P>), AllocError>
-    requires callable { F.IsAlwaysCallable run.pass.now }
-    requires some { 0 < vec_len crew_parts.ports }
-    requires rows { vec_len crew_parts.rows ≡ vec_len crew_parts.ports }
-    requires claims { vec_len crew_parts.claims ≡ vec_len crew_parts.ports }
-    requires starts { AllStart P.seen run.tree.now crew_parts.ports.items }
-    requires hart_local { AreHartLocals words.now.table crew_parts.rows.items crew_parts.claims.items }
-    ensures piece { IfOk result (λ back. IfSome back.0 (λ piece. piece.job ≡ job.entry)) }
-    ensures same { IfOk result
-        (λ back. AreSame P.seen crew_parts.ports.items back.1.ports.items) }
-    ensures hart_local { IfOk result
-        (λ back. AreHartLocals words.now.table back.1.rows.items back.1.claims.items) }
-{
-    let mut harts = crew(run.alloc, members, words, crew_parts, base, cells)?;
-    let piece = run_crew(run, harts.as_mut_slice(), job);
+    let mut harts = crew(run.alloc, members, words, crew_parts, &base, &cells)?;
+    let piece = run_all(run, harts.as_mut_slice(), job);
     Ok((piece, crew_parts_of(run.alloc, harts)?))
-}
-
-// Runs each hart, the first of them with this job. Returns the job's piece, unless an allocation failed.
-fn run_crew<
-    'x,
-    'p: 'x,
-    R: Threads + Wait + Sync,
-    F: Fn(u8, &Job<'p>) + Sync,
-    P: PatientPort<Hold = ()> + Send,
->(
-    run: Run<'_, R, F>,
-    harts: &mut [Hart<'x, 'p, P, SharedSite<'p>>],
-    job: Job<'p>,
-) -> Option<Piece<'p>>
-    requires callable { F.IsAlwaysCallable run.pass.now }
-    requires some { 0 < length harts.old }
-    requires starts { AllStart (λ hart. P.seen hart.port) run.tree.now harts.old }
-    ensures same { AreTheSame P.seen harts.old harts.new }
-    ensures piece { IfSome result (λ piece. piece.job ≡ job.entry) }
-{
-    harts[0].job = Some(job);
-    run_all(run, harts);
-    harts[0].piece.take()
 }
 
 // A hart for each port, in the base and with no job.
@@ -249,39 +194,34 @@ fn crew<'x, 'p: 'x, P: Drop>(
     Ok(harts)
 }
 
-// Runs each hart, and blocks until all are back. Why the first is last in the list: it runs on the current thread. If no thread
-// can be made, the others run after it, and end immediately, since it has shut the base.
+// Runs each hart on a thread, the first of them with this job, and blocks until all are back. Returns the job's piece, unless an
+// allocation failed.
 fn run_all<
     'x,
     'p: 'x,
     R: Threads + Wait + Sync,
     F: Fn(u8, &Job<'p>) + Sync,
     P: PatientPort<Hold = ()> + Send,
->(run: Run<'_, R, F>, harts: &mut [Hart<'x, 'p, P, SharedSite<'p>>])
+>(
+    run: Run<'_, R, F>,
+    harts: &mut [Hart<'x, 'p, P, SharedSite<'p>>],
+    job: Job<'p>,
+) -> Option<Piece<'p>>
     requires callable { F.IsAlwaysCallable run.pass.now }
+    requires some { 0 < length harts.old }
     requires starts { AllStart (λ hart. P.seen hart.port) run.tree.now harts.old }
-    ensures { HaveRun P.seen harts.old harts.new }
+    ensures same { AreTheSame P.seen harts.old harts.new }
+    ensures piece { IfSome result (λ piece. piece.job ≡ job.entry) }
 {
+    harts[0].job = Some(job);
+    // Why the first is last in the list: it runs on the current thread. If no thread can be made, the others run after it, and
+    // end immediately, since it has shut the base.
     harts.reverse();
-    run_each(run, harts);
-    harts.reverse();
-}
-
-// Runs each hart on a thread, the last of them on the current one.
-fn run_each<
-    'x,
-    'p: 'x,
-    R: Threads + Wait + Sync,
-    F: Fn(u8, &Job<'p>) + Sync,
-    P: PatientPort<Hold = ()> + Send,
->(run: Run<'_, R, F>, harts: &mut [Hart<'x, 'p, P, SharedSite<'p>>])
-    requires callable { F.IsAlwaysCallable run.pass.now }
-    requires starts { AllStart (λ hart. P.seen hart.port) run.tree.now harts.old }
-    ensures { HaveRun P.seen harts.old harts.new }
-{
     // Why as many parts as harts: the harts of one part run one after another, and each waits for all others.
     let parts = harts.len().max(1);
     thread::for_each_mut(run.rt, harts, parts, &|_, hart| work(run, (), hart));
+    harts.reverse();
+    harts[0].piece.take()
 }
 
 // What the harts give back, in their order.
