@@ -87,7 +87,8 @@ fn crew<'x, 'p: 'x, R: Threads + Wait + Sync>(
 
 // Runs each hart on a thread, the last of them on the current one.
 fn run_each<'x, 'p: 'x, R: Threads + Wait + Sync, F: Fn(u8, u16, u8, u8) + Sync>(
-    run: Run<'x, R, F>,
+    rt: &'x R,
+    run: Run<'_, R, F>,
     harts: &mut [Hart<'x, 'p, WaitingPort<'x, LockedPort<'x, R>, R>, SharedSite<'p>>],
 )
     requires callable { F.IsAlwaysCallable run.pass.now }
@@ -95,7 +96,7 @@ fn run_each<'x, 'p: 'x, R: Threads + Wait + Sync, F: Fn(u8, u16, u8, u8) + Sync>
 {
     // Why as many parts as harts: the harts of one part run one after another, and each waits for all others.
     let parts = harts.len().max(1);
-    thread::for_each_mut(run.rt, harts, parts, &|_, hart| work(run, run.rt, hart));
+    thread::for_each_mut(rt, harts, parts, &|_, hart| work(run, rt, hart));
 }
 
 // The piece of the hart that is last in the list.
@@ -136,7 +137,7 @@ fn run_body<'x, 'p: 'x, R: Threads + Wait + Sync>(
         hart_local,
         job,
     )?;
-    run_each(run, harts.as_mut_slice());
+    run_each(rt, run, harts.as_mut_slice());
     Ok(last_piece(harts.as_mut_slice()).ok_or("want of memory")?)
 }
 
