@@ -14,19 +14,37 @@ use Rattle.array_lang.specs.declared.operator.Strength.TheVariants.{Comparison a
 abbrev pub spot : Lexeme → ℕ → ℕ → Spot
 spot l a n = record { lexeme = l; at = a; line = n }
 
+-- How strongly a binary operator binds.
+abbrev pub binding : Op → Strength
+binding ops.Less = comparison
+binding ops.Greater = comparison
+binding ops.LessEq = comparison
+binding ops.GreaterEq = comparison
+binding ops.Equal = comparison
+binding ops.NotEqual = comparison
+binding ops.Add = addition
+binding ops.Sub = addition
+binding ops.Mul = product
+binding ops.Div = product
+binding ops.Rem = product
+
+-- An operator and how strongly it binds.
+abbrev pub bound : Op → Option (Strength × Op)
+bound op = Some (binding op, op)
+
 -- The binary operator that a token is, and how strongly the operator binds.
 abbrev pub operator_of : Lexeme → Option (Strength × Op)
-operator_of (sign signs.Less) = Some (comparison, ops.Less)
-operator_of (sign signs.Greater) = Some (comparison, ops.Greater)
-operator_of (sign signs.LessEq) = Some (comparison, ops.LessEq)
-operator_of (sign signs.GreaterEq) = Some (comparison, ops.GreaterEq)
-operator_of (sign signs.Equal) = Some (comparison, ops.Equal)
-operator_of (sign signs.NotEqual) = Some (comparison, ops.NotEqual)
-operator_of (sign signs.Plus) = Some (addition, ops.Add)
-operator_of (sign signs.Minus) = Some (addition, ops.Sub)
-operator_of (sign signs.Star) = Some (product, ops.Mul)
-operator_of (sign signs.Slash) = Some (product, ops.Div)
-operator_of (sign signs.Percent) = Some (product, ops.Rem)
+operator_of (sign signs.Less) = bound ops.Less
+operator_of (sign signs.Greater) = bound ops.Greater
+operator_of (sign signs.LessEq) = bound ops.LessEq
+operator_of (sign signs.GreaterEq) = bound ops.GreaterEq
+operator_of (sign signs.Equal) = bound ops.Equal
+operator_of (sign signs.NotEqual) = bound ops.NotEqual
+operator_of (sign signs.Plus) = bound ops.Add
+operator_of (sign signs.Minus) = bound ops.Sub
+operator_of (sign signs.Star) = bound ops.Mul
+operator_of (sign signs.Slash) = bound ops.Div
+operator_of (sign signs.Percent) = bound ops.Rem
 operator_of _ = None
 
 mutual

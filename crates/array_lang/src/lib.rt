@@ -20,4 +20,5 @@ mod stop;
 pub use array_tree::{ArrayDecl, Arrays, Block, Blocks, Expr, Name, Op, Program, Stmt};
 pub use fault::SyntaxFault;
 pub use laws::{one_fault, one_program};
+pub use operator::{Strength, binding};
 pub use spelling::parse;

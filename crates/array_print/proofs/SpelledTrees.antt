@@ -9,6 +9,7 @@ use Rattle.array_tree.specs.declared.tree.Op.{Op}
 use Rattle.array_tokens.specs.Literals.{greatest_literal}
 use Rattle.array_lang.specs.Grammar.{operator_of, SpellsExpression, lone_sum, compared, SpellsSum, lone_term, added, SpellsTerm, lone_factor, multiplied, SpellsFactor, negated, numbered, named, indexed, grouped, SpellsBound, plain_bound, negative_bound, SpellsRange, range, SpellsStatement, assigned, looped, chosen, chosen_else, parallel, teamed, SpellsBranches, last_branch, next_branch, SpellsPhases, last_phase, next_phase, SpellsBlock, block, SpellsSequence, no_statement, next_statement}
 use Rattle.array_lang.specs.Nesting.{expression_beyond, range_beyond, statement_beyond, branches_beyond, phases_beyond, block_beyond, sequence_beyond}
+use Rattle.array_lang.specs.Parsing.FirstToken.{pull_at}
 use Rattle.array_lang.proofs.Marks.{no_true, no_true-append, mark_count, operator_counts, clear_few}
 use Rattle.array_lang.specs.declared.operator.Strength.{Strength}
 use Rattle.array_lang.specs.declared.operator.Strength.TheVariants.{Comparison as comparison, Addition as addition, Product as product}
@@ -48,14 +49,9 @@ parens_less false b h = omega arith
 weaker_less : (n j k : ℕ) → j ≤ k → parens (nat_lt n j) ≤ parens (nat_lt n k)
 weaker_less n j k h = parens_less (nat_lt n j) (nat_lt n k) (λ e. grind (arith, nat_tests))
 
-abbrev number_of : Strength → ℕ
-number_of comparison = 1
-number_of addition = 2
-number_of product = 3
-
 abbrev HasStrength : Option (Strength × Op) → Type 0
 HasStrength None = Unit {0}
-HasStrength (Some o) = op_strength o.1 ≡ number_of o.0
+HasStrength (Some o) = op_strength o.1 ≡ pull_at o.0
 
 strengths : (l : Lexeme) → HasStrength (operator_of l)
 strengths (sign signs.Star) = refl
@@ -71,7 +67,7 @@ strengths (sign signs.Plus) = refl
 strengths (sign signs.Minus) = refl
 strengths l = tt
 
-strength_is : (l : Lexeme) (o : Strength × Op) → operator_of l ≡ Some o → op_strength o.1 ≡ number_of o.0
+strength_is : (l : Lexeme) (o : Strength × Op) → operator_of l ≡ Some o → op_strength o.1 ≡ pull_at o.0
 strength_is l o e = subst HasStrength e (strengths l)
 
 left_weak : (op : Op) (x : Expression) (k : ℕ) → op_strength op ≤ k → 2 ≤ k → parens (groups_left op x) ≤ parens (nat_lt (strength_of x) k)

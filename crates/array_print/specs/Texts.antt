@@ -4,21 +4,13 @@ use Rattle.std.specs.Prelude.{ℕ, ℤ, nat_lt, nat_le, nat_eq, Bool, true, fals
 use Rattle.std.specs.Fmt.{signed_decimal}
 use Rattle.array_tree.specs.declared.tree.Op.{Op}
 use Rattle.array_tree.specs.declared.tree.Op.TheVariants as ops
+use Rattle.array_lang.specs.Grammar.{binding}
+use Rattle.array_lang.specs.Parsing.FirstToken.{pull_at}
 use Rattle.array_tree.specs.Trees.{Expression, Number, Var, Read, Neg, Binary, Statement, Assign, For, If, Par, Team, Sequence, ended, followed, Sequences, no_more, beside, Declaration, ProgramTree}
 
 -- How strongly an operator binds: a comparison 1, a sum 2, a product 3.
 abbrev pub op_strength : Op → ℕ
-op_strength ops.Add = 2
-op_strength ops.Sub = 2
-op_strength ops.Mul = 3
-op_strength ops.Div = 3
-op_strength ops.Rem = 3
-op_strength ops.Less = 1
-op_strength ops.Greater = 1
-op_strength ops.LessEq = 1
-op_strength ops.GreaterEq = 1
-op_strength ops.Equal = 1
-op_strength ops.NotEqual = 1
+op_strength op = pull_at (binding op)
 
 -- The same of an expression: that of its operator, a minus sign 4, all others 5.
 abbrev pub strength_of : Expression → ℕ

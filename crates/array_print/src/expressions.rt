@@ -2,10 +2,11 @@
 
 ghost use Rattle.std.specs.Prelude.{◌≡◌, OnOk};
 ghost use Rattle.array_tree.specs.Trees.{expression_of};
-ghost use Rattle.array_print.specs.Texts.{expression_text, grouped_text, groups_left, strength_of, op_strength, op_text};
+ghost use Rattle.array_print.specs.Texts.{expression_text, grouped_text, groups_left, strength_of, op_text};
 ghost use Rattle.array_print.specs.Printers.{Adds};
 
 use crate::printer::Printer;
+use array_lang::binding;
 use array_tree::{Expr, Op};
 use std::alloc::AllocError;
 
@@ -35,7 +36,7 @@ impl Printer {
             Expr::Binary(op, left, right) => {
                 self.operand(left, is_left_grouped(*op, left))?;
                 self.add(op_bytes(*op))?;
-                self.operand(right, strength(right) <= op_strength(*op))
+                self.operand(right, strength(right) <= binding(*op).number())
             }
         }
     }
@@ -58,26 +59,17 @@ impl Printer {
 fn is_left_grouped(op: Op, left: &Expr) -> bool
     ensures { result ≡ groups_left op (expression_of left.now) }
 {
-    strength(left) < op_strength(op) || op_strength(op) == 1 && strength(left) == 1
+    let around = binding(op).number();
+    strength(left) < around || around == 1 && strength(left) == 1
 }
 
 fn strength(expression: &Expr) -> u8
     ensures { result ≡ strength_of (expression_of expression.now) }
 {
     match expression {
-        Expr::Binary(op, _, _) => op_strength(*op),
+        Expr::Binary(op, _, _) => binding(*op).number(),
         Expr::Neg(_) => MINUS,
         _ => 5,
-    }
-}
-
-fn op_strength(op: Op) -> u8
-    ensures { result ≡ op_strength op }
-{
-    match op {
-        Op::Less | Op::Greater | Op::LessEq | Op::GreaterEq | Op::Equal | Op::NotEqual => 1,
-        Op::Add | Op::Sub => 2,
-        Op::Mul | Op::Div | Op::Rem => 3,
     }
 }
 
