@@ -144,7 +144,9 @@ impl<'a, 'p, S: InDirectory<'p>, R: Wait> Sites<R, JobMachines<'p>> for HartSite
     fn deposit(&mut self, rt: &R, alloc: Global, site: &mut HartSite<'a, 'p, S>, piece: Piece<'p>) {
         let scheduler_ref = ref_in(&site.placement, site.level, &self.hart_local);
         let batch = &mut site.batch;
-        self.hart_local
+        // Why no error: the piece isn't lost if an allocation failed. A team then is failed.
+        let _ = self
+            .hart_local
             .deposit(rt, alloc, scheduler_ref, batch, piece);
     }
 

@@ -1,10 +1,15 @@
 -- The pieces of a pool that a hart keeps for a while.
 use Rattle.std.specs.Prelude.{◌≡◌, ◌⊎◌, List, [], ◌∷◌, ◌++◌, Option, Some, None, option_map, Result, Ok, Err}
+use Rattle.std.specs.Option.{IsSomeAnd}
 use Rattle.array_jobs.specs.Jobs.{JobParts}
 use Rattle.array_jobs.specs.PieceParts.{PieceParts}
 use Rattle.sched_api.specs.declared.scheduler.Next.{Next}
 use Rattle.sched_api.specs.declared.scheduler.Next.TheVariants.{Run, Lend, Nothing}
-use Rattle.forkjoin_sched.specs.Batches.{BatchParts, emptied}
+use Rattle.forkjoin_sched.specs.Pools.{start_of}
+use Rattle.forkjoin_sched.specs.Shared.{SharedParts}
+use Rattle.forkjoin_sched.specs.Batches.{BatchParts, Starts, new_batch, emptied}
+use Rattle.forkjoin_sched.specs.declared.batch.NotAdded.{NotAdded}
+use Rattle.forkjoin_sched.specs.declared.batch.NotAdded.TheVariants.{OtherStart, OutOfMemory}
 use Rattle.shared_sites.specs.declared.scheduler_ref.SchedulerRef.{SchedulerRef}
 use Rattle.shared_sites.specs.declared.scheduler_ref.SchedulerRef.TheVariants.{Base, Pool, Team, Pipe, NoScheduler}
 
@@ -13,15 +18,41 @@ abbrev pub pieces_of : Option BatchParts → List PieceParts
 pieces_of None = []
 pieces_of (Some batch) = batch.pieces
 
--- A piece is kept behind those that were kept before. Otherwise it is returned, and no kept piece is lost.
-abbrev pub Keeps : Option BatchParts → PieceParts → Result (Unit {0}) PieceParts → Option BatchParts → Type 0
-Keeps before piece (Ok done) after = pieces_of after ≡ pieces_of before ++ piece ∷ []
-Keeps before piece (Err back) after = (back ≡ piece) × (pieces_of after ≡ pieces_of before)
+-- The batch that is kept, or else one without pieces that starts as the pool's jobs do, if their start is known.
+abbrev pub begun : SharedParts → Option BatchParts → Option BatchParts
+begun pool (Some batch) = Some batch
+begun pool None = option_map new_batch (start_of pool.knows_start pool.jobs)
 
--- No kept piece is lost, and at most this piece is kept behind them.
-abbrev pub StillKeeps : Option BatchParts → PieceParts → Option BatchParts → Type 0
-StillKeeps before piece after =
-    (pieces_of after ≡ pieces_of before) ⊎ (pieces_of after ≡ pieces_of before ++ piece ∷ [])
+-- There is such a batch, and the piece's job starts from its store.
+abbrev pub MayKeepIn : SharedParts → Option BatchParts → PieceParts → Type 0
+MayKeepIn pool kept piece = IsSomeAnd (begun pool kept) (λ batch. Starts batch.start piece)
+
+-- A piece is kept behind those that were kept before, if its job starts from their store. Otherwise, or if an allocation fails, it
+-- is returned, and no kept piece is lost.
+abbrev pub Keeps : SharedParts → Option BatchParts → PieceParts → Result (Unit {0}) NotAdded
+    → Option BatchParts → Type 0
+Keeps pool before piece (Ok done) after =
+    MayKeepIn pool before piece × (pieces_of after ≡ pieces_of before ++ piece ∷ [])
+Keeps pool before piece (Err (OtherStart back)) after =
+    (¬ MayKeepIn pool before piece) × (back ≡ piece) × (pieces_of after ≡ pieces_of before)
+Keeps pool before piece (Err (OutOfMemory back)) after =
+    (back ≡ piece) × (pieces_of after ≡ pieces_of before)
+
+-- The scheduler is a pool, and the piece's job starts from the store of the kept pieces. Pieces of other schedulers aren't kept.
+abbrev pub MayKeep : SchedulerRef → Option BatchParts → PieceParts → Type 0
+MayKeep (Pool place) kept piece = MayKeepIn place.pool.now kept piece
+MayKeep (Base base) kept piece = ⊥
+MayKeep (Team place) kept piece = ⊥
+MayKeep (Pipe pipe) kept piece = ⊥
+MayKeep NoScheduler kept piece = ⊥
+
+-- No kept piece is lost. Unless an allocation fails, this piece is kept behind them exactly if it may be kept.
+abbrev pub StillKeeps : {E : Type 0} → SchedulerRef → Option BatchParts → PieceParts → Result (Unit {0}) E
+    → Option BatchParts → Type 0
+StillKeeps scheduler_ref before piece (Ok done) after =
+    (MayKeep scheduler_ref before piece × (pieces_of after ≡ pieces_of before ++ piece ∷ []))
+    ⊎ ((¬ MayKeep scheduler_ref before piece) × (pieces_of after ≡ pieces_of before))
+StillKeeps scheduler_ref before piece (Err failed) after = pieces_of after ≡ pieces_of before
 
 -- The batch after its pieces were handed over to the scheduler: a pool gets all of them, and no other scheduler gets any.
 abbrev pub handed_to : SchedulerRef → Option BatchParts → Option BatchParts

@@ -20,7 +20,7 @@ use array_jobs::{Job, Piece};
 use base_sched::SharedBaseHand;
 use crossbeam_utils::Backoff;
 use deque_rows::HartRows;
-use forkjoin_sched::{PieceBatch, SharedPool};
+use forkjoin_sched::{NotAdded, PieceBatch, SharedPool};
 use hart_work::{call_back, callback_with};
 use loop_team::{ClaimSeat, SharedTeam};
 use pipe_sched::PipeHand;
@@ -294,8 +294,13 @@ impl<'t> HartLocal<'t> {
         }
     }
 
-    /// Gives the scheduler a piece that is done. A pool's piece is kept, to hand it over with others. If it can't be kept, the
-    /// pool gets it at once. A piece that is a stranger to the scheduler is dropped.
+    /// Gives the scheduler a piece that is done. A pool's piece is kept, to hand it over with others, if the pool's jobs are known
+    /// to start from the store of the piece's job. Otherwise the pool gets it at once. A piece that is a stranger to the scheduler
+    /// is dropped.
+    ///
+    /// # Errors
+    ///
+    /// `AllocError` if an allocation fails. A pool gets the piece nonetheless.
     pub fn deposit<'b, 'p, R: Wait + 'b>(
         &mut self,
         rt: &'b R,
@@ -303,24 +308,32 @@ impl<'t> HartLocal<'t> {
         scheduler_ref: SchedulerRef<'b, 'p>,
         kept: &mut Option<PieceBatch<'p>>,
         piece: Piece<'p>,
-    )
+    ) -> Result<(), AllocError>
         requires { Fits self.old scheduler_ref }
         ensures hart_local { self.new ≡ self.old }
-        ensures kept { StillKeeps kept.old piece.entry kept.new }
+        ensures kept { StillKeeps scheduler_ref.entry kept.old piece.entry result kept.new }
     {
         match scheduler_ref {
-            Pool(place) => {
-                if let Err(piece) = keep(alloc, place.pool, kept, piece) {
+            Pool(place) => match keep(alloc, place.pool, kept, piece) {
+                Ok(()) => Ok(()),
+                Err(NotAdded::OtherStart(piece)) => {
                     let _ = place.hand::<R>(&mut self.rows).deposit(rt, piece);
+                    Ok(())
                 }
-            }
+                Err(NotAdded::OutOfMemory(piece)) => {
+                    let _ = place.hand::<R>(&mut self.rows).deposit(rt, piece);
+                    Err(AllocError)
+                }
+            },
             Team(place) => {
-                let _ = place.hand::<R>(&mut self.seat).arrive(rt, piece);
+                let _ = place.hand::<R>(&mut self.seat).arrive(rt, piece)?;
+                Ok(())
             }
             Pipe(pipe) => {
                 let _ = PipeHand::<R>::new(pipe).deposit(rt, piece);
+                Ok(())
             }
-            _ => {}
+            Base(_) | NoScheduler => Ok(()),
         }
     }
 

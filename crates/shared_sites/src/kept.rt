@@ -1,6 +1,6 @@
 //! The pieces of a pool that a hart keeps for a while.
-ghost use Rattle.std.specs.Prelude.{◌≡◌, []};
-ghost use Rattle.shared_sites.specs.Keeping.{pieces_of, Keeps};
+ghost use Rattle.std.specs.Prelude.{◌≡◌, IfOk};
+ghost use Rattle.shared_sites.specs.Keeping.{pieces_of, begun, Keeps};
 
 use array_jobs::Piece;
 use forkjoin_sched::{NotAdded, PieceBatch, SharedPool};
@@ -10,41 +10,41 @@ use std::alloc::{AllocError, Global};
 ///
 /// # Errors
 ///
-/// The piece, if the pool's jobs aren't known to start from the store of its job, or an allocation fails.
+/// `NotAdded::OtherStart` exactly if the piece's job doesn't start from the store of the kept pieces, or, if there is no batch, if
+/// the pool's jobs aren't known to start from the store of the piece's job. `NotAdded::OutOfMemory` if an allocation fails.
 pub(crate) fn keep<'p>(
     alloc: Global,
     pool: &SharedPool<'p>,
     kept: &mut Option<PieceBatch<'p>>,
     piece: Piece<'p>,
-) -> Result<(), Piece<'p>>
-    ensures { Keeps kept.old piece.entry result kept.new }
+) -> Result<(), NotAdded<'p>>
+    ensures { Keeps pool.now kept.old piece.entry result kept.new }
 {
-    begin(alloc, pool, kept);
+    match begin(alloc, pool, kept) {
+        Ok(()) => {}
+        Err(AllocError) => return Err(NotAdded::OutOfMemory(piece)),
+    }
     match kept {
-        Some(batch) => match batch.add(piece) {
-            Ok(()) => Ok(()),
-            Err(NotAdded::OtherStart(piece)) => Err(piece),
-            Err(NotAdded::OutOfMemory(piece)) => Err(piece),
-        },
-        None => Err(piece),
+        Some(batch) => batch.add(piece),
+        None => Err(NotAdded::OtherStart(piece)),
     }
 }
 
-// Begins a batch, if there is none.
-fn begin<'p>(alloc: Global, pool: &SharedPool<'p>, kept: &mut Option<PieceBatch<'p>>)
-    ensures { pieces_of kept.new ≡ pieces_of kept.old }
+// Begins a batch, if there is none and the pool's jobs are known to start from one store.
+fn begin<'p>(
+    alloc: Global,
+    pool: &SharedPool<'p>,
+    kept: &mut Option<PieceBatch<'p>>,
+) -> Result<(), AllocError>
+    ensures pieces { pieces_of kept.new ≡ pieces_of kept.old }
+    ensures begun { IfOk result (λ _. kept.new ≡ begun pool.now kept.old) }
 {
-    if kept.is_none() {
-        *kept = empty_batch(alloc, pool);
+    if kept.is_some() {
+        return Ok(());
     }
-}
-
-// A batch for pieces of the pool, if its jobs are known to start from one store.
-fn empty_batch<'p>(alloc: Global, pool: &SharedPool<'p>) -> Option<PieceBatch<'p>>
-    ensures { pieces_of result ≡ [] }
-{
-    match pool.start()?.copy() {
-        Ok(start) => Some(PieceBatch::new(alloc, start)),
-        Err(AllocError) => None,
-    }
+    let Some(start) = pool.start() else {
+        return Ok(());
+    };
+    *kept = Some(PieceBatch::new(alloc, start.copy()?));
+    Ok(())
 }
