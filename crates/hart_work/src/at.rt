@@ -109,6 +109,7 @@ impl<'h, R, M: Machines, H: Sites<R, M>> Scheduler for At<'h, R, M, H, H::Site> 
         self.hear(Call::Blocked, 0, 0)
     }
 
+    // Why an error: machines wait at no mutex, so no scheduler here has a place for such a context.
     fn unblock(&mut self, _hold: (), c: M::Job) -> Result<(), M::Job> {
         Err(c)
     }

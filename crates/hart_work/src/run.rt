@@ -10,7 +10,8 @@ pub struct Run<'x, R, F> {
     pub alloc: Global,
     /// The plan of the run, with the children of each site.
     pub tree: &'x SiteTree,
-    /// The gate. A hart that has taken a job calls it with its number and the job, before the job's first step.
+    /// The gate. A hart that has taken a job calls it before the job's first step, with the hart's number and the job, or in
+    /// `hart_loop` with the job's site, phase and index.
     pub pass: &'x F,
 }
 

@@ -61,7 +61,7 @@ fn turned(alloc: Global, machine: &mut StepMachine) -> Result<Turn, Fail>
             Ok(Turn::Construct)
         }
         Step::Nest(Found::Pass { first, end }) => Ok(Turn::Pass { first, end }),
-        Step::NoMemory => Err(Fail::new("want of memory")),
+        Step::NoMemory => Err(Fail::new("out of memory")),
     }
 }
 

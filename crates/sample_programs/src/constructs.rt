@@ -62,6 +62,6 @@ pub fn waiting<'p>(alloc: Global, jobs: &[Job<'p>]) -> Result<Paused<StepMachine
     };
     match ctx_init(alloc, StepMachine::new(alloc, job.copy()?)?) {
         Ok(fresh) => Ok(ctx_pause(ctx_run(fresh))),
-        Err(InitRefused { machine: _ }) => Err(Fail::new("want of memory")),
+        Err(InitRefused { machine: _ }) => Err(Fail::new("out of memory")),
     }
 }

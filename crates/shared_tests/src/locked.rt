@@ -138,7 +138,7 @@ fn run_body<'x, 'p: 'x, R: Threads + Wait + Sync>(
         job,
     )?;
     run_each(rt, run, harts.as_mut_slice());
-    Ok(last_piece(harts.as_mut_slice()).ok_or("want of memory")?)
+    Ok(last_piece(harts.as_mut_slice()).ok_or("out of memory")?)
 }
 
 // The hart-local states of so many harts.

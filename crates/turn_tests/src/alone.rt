@@ -44,7 +44,7 @@ fn put(alloc: Global, turns: &mut Turns<Paused<Task>>, name: char, left: u8) -> 
             Ok(()) => Ok(()),
             Err(_) => Err(Fail::new("no room")),
         },
-        Err(InitRefused { machine: _ }) => Err(Fail::new("want of memory")),
+        Err(InitRefused { machine: _ }) => Err(Fail::new("out of memory")),
     }
 }
 
