@@ -32,6 +32,12 @@ module _ {A B : Type 0} (f : A → B) where
   pub all_of_map : (F : B → Type 0) (xs : List A) → All F (map f xs) → All (λ x. F (f x)) xs
   all_of_map F xs all k d below = subst F (get_or-map f xs k d (f d) below) (all k (f d) (omega (arith, below, length-map xs f)))
 
+-- A property of all items holds of all in reverse order.
+pub all_reversed : {A : Type 0} (F : A → Type 0) (xs : List A) → All F xs → All F (reverse xs)
+all_reversed F xs all k d below =
+    let turned : length (reverse xs) ≡ length xs = length-reverse xs in
+    subst F (sym (get_or-reverse xs k d (omega (arith, below, turned)))) (all (length xs - 1 - k) d (omega (arith, below, turned)))
+
 -- ---- harts
 
 abbrev pub port_of : {P S : Type 0} → Hart P S → P

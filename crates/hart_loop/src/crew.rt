@@ -59,7 +59,13 @@ pub fn run_ports<
     ensures same { IfOk result (λ back. AreSame P.seen ports.items back.1.items) }
 {
     let (words, crew_parts) = lend(run.alloc, accepted, ports)?;
-    let (piece, crew_parts) = run_lent(run, accepted, members, &words, crew_parts)?;
+    let sites = run.tree.plan().sites();
+    let base = SharedBase::new(Base::new(run.alloc, sites)?);
+    let cells = cells(run.alloc, sites)?;
+    let job = body_job(run.alloc, accepted.program())?;
+    let mut harts = crew(run.alloc, members, &words, crew_parts, &base, &cells)?;
+    let piece = run_all(run, harts.as_mut_slice(), job);
+    let crew_parts = crew_parts_of(run.alloc, harts)?;
     let CrewParts {
         ports,
         rows,
@@ -115,42 +121,6 @@ fn settle_all(words: Claims, rows: Vec<HartRows>, claims: Vec<ClaimSeat>)
     claimed(words.into_table(), claims);
 }
 
-// Runs all harts with their hart-local states, the first of them with the program's body. Returns the body's piece, unless an allocation
-// failed there, and what the harts gave back.
-fn run_lent<
-    'p,
-    R: Threads + Wait + Sync,
-    F: Fn(u8, u16, u8, u8) + Sync,
-    P: PatientPort<Hold = ()> + Send + Drop,
->(
-    run: Run<'_, R, F>,
-    accepted: &Accepted<'p>,
-    members: TeamMode,
-    words: &Claims,
-    crew_parts: CrewParts<P>,
-) -> Result<(Option<Piece<'p>>, CrewParts<P>), AllocError>
-    requires callable { F.IsAlwaysCallable run.pass.now }
-    requires some { 0 < vec_len crew_parts.ports }
-    requires rows { vec_len crew_parts.rows ≡ vec_len crew_parts.ports }
-    requires claims { vec_len crew_parts.claims ≡ vec_len crew_parts.ports }
-    requires starts { AllStart P.seen run.tree.now crew_parts.ports.items }
-    requires hart_local { AreHartLocals words.now.table crew_parts.rows.items crew_parts.claims.items }
-    ensures piece { IfOk result (λ back. IfSome back.0
-        (λ piece. job_of piece.job ≡ body_of (program_of accepted.now.program))) }
-    ensures same { IfOk result
-        (λ back. AreSame P.seen crew_parts.ports.items back.1.ports.items) }
-    ensures hart_local { IfOk result
-        (λ back. AreHartLocals words.now.table back.1.rows.items back.1.claims.items) }
-{
-    let sites = run.tree.plan().sites();
-    let base = SharedBase::new(Base::new(run.alloc, sites)?);
-    let cells = cells(run.alloc, sites)?;
-    let job = body_job(run.alloc, accepted.program())?;
-    let mut harts = crew(run.alloc, members, words, crew_parts, &base, &cells)?;
-    let piece = run_crew(run, harts.as_mut_slice(), job);
-    Ok((piece, crew_parts_of(run.alloc, harts)?))
-}
-
 // A hart for each port, in the base and with no job.
 fn crew<'x, 'p: 'x, P: Drop>(
     alloc: Global,
@@ -194,8 +164,9 @@ fn crew<'x, 'p: 'x, P: Drop>(
     Ok(harts)
 }
 
-// Runs each hart, the first of them with this job. Returns the job's piece, unless an allocation failed.
-fn run_crew<
+// Runs each hart on a thread, the first of them with this job, and blocks until all are back. Returns the job's piece, unless an
+// allocation failed.
+fn run_all<
     'x,
     'p: 'x,
     R: Threads + Wait + Sync,
@@ -213,43 +184,14 @@ fn run_crew<
     ensures piece { IfSome result (λ piece. piece.job ≡ job.entry) }
 {
     harts[0].job = Some(job);
-    run_all(run, harts);
-    harts[0].piece.take()
-}
-
-// Runs each hart, and blocks until all are back. Why the first is last in the list: it runs on the current thread. If no thread
-// can be made, the others run after it, and end immediately, since it has shut the base.
-fn run_all<
-    'x,
-    'p: 'x,
-    R: Threads + Wait + Sync,
-    F: Fn(u8, u16, u8, u8) + Sync,
-    P: PatientPort<Hold = ()> + Send,
->(run: Run<'_, R, F>, harts: &mut [Hart<'x, 'p, P, SharedSite<'p>>])
-    requires callable { F.IsAlwaysCallable run.pass.now }
-    requires starts { AllStart (λ hart. P.seen hart.port) run.tree.now harts.old }
-    ensures { HaveRun P.seen harts.old harts.new }
-{
+    // Why the first is last in the list: it runs on the current thread. If no thread can be made, the others run after it, and
+    // end immediately, since it has shut the base.
     harts.reverse();
-    run_each(run, harts);
-    harts.reverse();
-}
-
-// Runs each hart on a thread, the last of them on the current one.
-fn run_each<
-    'x,
-    'p: 'x,
-    R: Threads + Wait + Sync,
-    F: Fn(u8, u16, u8, u8) + Sync,
-    P: PatientPort<Hold = ()> + Send,
->(run: Run<'_, R, F>, harts: &mut [Hart<'x, 'p, P, SharedSite<'p>>])
-    requires callable { F.IsAlwaysCallable run.pass.now }
-    requires starts { AllStart (λ hart. P.seen hart.port) run.tree.now harts.old }
-    ensures { HaveRun P.seen harts.old harts.new }
-{
     // Why as many parts as harts: the harts of one part run one after another, and each waits for all others.
     let parts = harts.len().max(1);
     thread::for_each_mut(run.rt, harts, parts, &|_, hart| work(run, (), hart));
+    harts.reverse();
+    harts[0].piece.take()
 }
 
 // What the harts give back, in their order.

@@ -59,6 +59,13 @@ pub fn work<'a, 'p, P: PatientPort, R: Wait, S: InDirectory<'p>, F: Fn(u8, u16, 
     ensures { HasRun (P.seen hart.old.port) hart.old.sites.hart_local hart.old.job
         (P.seen hart.new.port) hart.new.sites.hart_local hart.new.piece }
 {
+    let pass = run.pass;
+    let run = Run {
+        rt: run.rt,
+        alloc: run.alloc,
+        tree: run.tree,
+        pass: &|hart, job: &Job| pass(hart, job.site, job.phase, job.place),
+    };
     match hart.job.take() {
         Some(job) => {
             let piece = run_body(run, hold, hart, job);
@@ -66,25 +73,13 @@ pub fn work<'a, 'p, P: PatientPort, R: Wait, S: InDirectory<'p>, F: Fn(u8, u16, 
         }
         None => {
             let mut base: HartSite<'a, 'p, S> = HartSite::base(hart.base);
-            let pass = run.pass;
-            serve(
-                Run {
-                    rt: run.rt,
-                    alloc: run.alloc,
-                    tree: run.tree,
-                    pass: &|hart, job: &Job| pass(hart, job.site, job.phase, job.place),
-                },
-                &mut hart.port,
-                hold,
-                &mut hart.sites,
-                &mut base,
-            );
+            serve(run, &mut hart.port, hold, &mut hart.sites, &mut base);
         }
     }
 }
 
 // Runs the body, shuts the base, and waits until each top site is gone.
-fn run_body<'a, 'p, P: PatientPort, R: Wait, S: InDirectory<'p>, F: Fn(u8, u16, u8, u8)>(
+fn run_body<'a, 'p, P: PatientPort, R: Wait, S: InDirectory<'p>, F: Fn(u8, &Job<'p>)>(
     run: Run<'_, R, F>,
     hold: P::Hold,
     hart: &mut Hart<'a, 'p, P, S>,
@@ -98,20 +93,7 @@ fn run_body<'a, 'p, P: PatientPort, R: Wait, S: InDirectory<'p>, F: Fn(u8, u16, 
     ensures piece { IfOk result (λ piece. piece.job ≡ job.entry) }
 {
     let mut base: HartSite<'a, 'p, S> = HartSite::base(hart.base);
-    let pass = run.pass;
-    let piece = run_piece(
-        Run {
-            rt: run.rt,
-            alloc: run.alloc,
-            tree: run.tree,
-            pass: &|hart, job: &Job| pass(hart, job.site, job.phase, job.place),
-        },
-        &mut hart.port,
-        hold,
-        &mut hart.sites,
-        &mut base,
-        job,
-    );
+    let piece = run_piece(run, &mut hart.port, hold, &mut hart.sites, &mut base, job);
     sweep_if(run.tree, &mut hart.port, hold, piece.is_err());
     hart.base.shut(run.rt);
     finish_base(run.tree, &mut hart.port, hold);

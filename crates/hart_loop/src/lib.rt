@@ -8,6 +8,7 @@
 //! Begin with `run_harts` in `several.rt`, then `run_ports` in `crew.rt`; the tests of `harts_tests` run programs on threads.
 #![tactic(auto)]
 
+mod alone;
 mod crew;
 mod hart;
 mod hart_site;
@@ -17,15 +18,17 @@ mod members;
 mod on_board;
 mod on_plain_port;
 mod opened;
+mod outcome;
 mod several;
 mod turns;
 
+pub use alone::run_alone;
 pub use hart::{Hart, work};
 pub use hart_site::HartSite;
 pub use harts::HartSites;
 pub use in_directory::InDirectory;
-pub use lone_hart::{Journal, Outcome, run_alone};
 pub use members::TeamMode;
+pub use outcome::{Journal, Outcome};
 pub use several::{run_harts, run_piped};
 pub use wide_board::WideClosed;
 pub use word_board::Closed;

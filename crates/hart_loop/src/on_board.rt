@@ -8,12 +8,12 @@ ghost use Rattle.lent_board.specs.Of.{IsOf};
 
 use crate::crew::run_ports;
 use crate::members::TeamMode;
+use crate::outcome::store_after;
 use array_eval::Store;
 use board_rule::Laid;
 use disjoint_check::Accepted;
 use hart_work::Run;
 use lent_board::{Board, BoardPort, Closed, HartSeat};
-use lone_hart::store_after;
 use site_steps::WaitingPort;
 use std::alloc::{AllocError, Global};
 use std::sync::Wait;

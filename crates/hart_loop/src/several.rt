@@ -1,20 +1,20 @@
 //! Runs on several harts, and runs whose members overtake.
-ghost use Rattle.std.specs.Prelude.{◌≡◌, ◌≤◌, ◌<◌, ◌↔◌, IfOk, IsTrue, length};
+ghost use Rattle.std.specs.Prelude.{◌≤◌, ◌↔◌, IfOk, IsTrue, length};
 ghost use Rattle.array_tree.specs.Trees.{program_of};
-ghost use Rattle.array_meaning.specs.Work.{final_store};
 ghost use Rattle.array_meaning.specs.Entered.{entered_of};
 ghost use Rattle.phase_order.specs.Crossings.{HasNoCrossings};
 ghost use Rattle.transfer_table.specs.Plan.{most_entries};
 ghost use Rattle.transfer_table.specs.Journal.{IsComplete};
-ghost use Rattle.lone_hart.specs.Journals.{entries_in, IsListed, IsBoard, IsWide};
+ghost use Rattle.hart_loop.specs.Journals.{IsOfKind};
+ghost use Rattle.hart_loop.specs.Outcomes.{IsOutcome};
 
 use crate::members::TeamMode;
 use crate::on_board::on_board;
 use crate::on_plain_port::on_plain_port;
+use crate::outcome::{Journal, Outcome};
 use disjoint_check::Accepted;
 use entered_sites::entered_by;
 use hart_work::Run;
-use lone_hart::{Journal, Outcome};
 use outside_io::Gate;
 use site_steps::SiteTree;
 use std::alloc::{AllocError, Global};
@@ -48,15 +48,8 @@ pub fn run_harts<R: Threads + Wait + Sync, G: Gate>(
     gate: &G,
 ) -> Result<Outcome, AllocError>
     requires { 2 ≤ accepted.now.plan.harts }
-    ensures store { IfOk result
-        (λ outcome. outcome.store ≡ final_store (program_of accepted.now.program)) }
-    ensures journal { IfOk result (λ outcome. IsComplete accepted.now.plan
-        (entered_of (program_of accepted.now.program)) (entries_in outcome.journal)) }
-    ensures board { IfOk result
-        (λ outcome. accepted.now.plan.harts ≤ 4 → IsBoard outcome.journal) }
-    ensures wide { IfOk result
-        (λ outcome. 4 < accepted.now.plan.harts → IsWide outcome.journal) }
-    ensures short { IfOk result (λ outcome. length (entries_in outcome.journal) ≤ most_entries) }
+    ensures outcome { IfOk result (IsOutcome accepted.now) }
+    ensures kind { IfOk result (λ outcome. IsOfKind accepted.now.plan.harts outcome.journal) }
 {
     run_tested(rt, alloc, accepted, TeamMode::Wait, gate)
 }
@@ -83,17 +76,8 @@ pub fn run_piped<R: Threads + Wait + Sync, G: Gate>(
     gate: &G,
 ) -> Result<Outcome, AllocError>
     requires { HasNoCrossings (program_of accepted.now.program) }
-    ensures store { IfOk result
-        (λ outcome. outcome.store ≡ final_store (program_of accepted.now.program)) }
-    ensures journal { IfOk result (λ outcome. IsComplete accepted.now.plan
-        (entered_of (program_of accepted.now.program)) (entries_in outcome.journal)) }
-    ensures listed { IfOk result
-        (λ outcome. accepted.now.plan.harts ≡ 1 → IsListed outcome.journal) }
-    ensures board { IfOk result (λ outcome. 2 ≤ accepted.now.plan.harts
-        → accepted.now.plan.harts ≤ 4 → IsBoard outcome.journal) }
-    ensures wide { IfOk result
-        (λ outcome. 4 < accepted.now.plan.harts → IsWide outcome.journal) }
-    ensures short { IfOk result (λ outcome. length (entries_in outcome.journal) ≤ most_entries) }
+    ensures outcome { IfOk result (IsOutcome accepted.now) }
+    ensures kind { IfOk result (λ outcome. IsOfKind accepted.now.plan.harts outcome.journal) }
 {
     run_tested(rt, alloc, accepted, TeamMode::Overtake, gate)
 }
@@ -106,17 +90,8 @@ fn run_tested<R: Threads + Wait + Sync, G: Gate>(
     members: TeamMode,
     gate: &G,
 ) -> Result<Outcome, AllocError>
-    ensures store { IfOk result
-        (λ outcome. outcome.store ≡ final_store (program_of accepted.now.program)) }
-    ensures journal { IfOk result (λ outcome. IsComplete accepted.now.plan
-        (entered_of (program_of accepted.now.program)) (entries_in outcome.journal)) }
-    ensures listed { IfOk result
-        (λ outcome. accepted.now.plan.harts ≡ 1 → IsListed outcome.journal) }
-    ensures board { IfOk result (λ outcome. 2 ≤ accepted.now.plan.harts
-        → accepted.now.plan.harts ≤ 4 → IsBoard outcome.journal) }
-    ensures wide { IfOk result
-        (λ outcome. 4 < accepted.now.plan.harts → IsWide outcome.journal) }
-    ensures short { IfOk result (λ outcome. length (entries_in outcome.journal) ≤ most_entries) }
+    ensures outcome { IfOk result (IsOutcome accepted.now) }
+    ensures kind { IfOk result (λ outcome. IsOfKind accepted.now.plan.harts outcome.journal) }
 {
     let tree = SiteTree::new(alloc, accepted.plan())?;
     let pass = |hart, site, phase, place| gate.passed(rt, hart, site, phase, place);
@@ -126,45 +101,23 @@ fn run_tested<R: Threads + Wait + Sync, G: Gate>(
         tree: &tree,
         pass: &pass,
     };
+    let harts = accepted.plan().harts();
     for _ in rt.forever() {
-        let outcome = run_once(run, accepted, members)?;
-        if is_complete(alloc, accepted, outcome.journal.entries())? {
-            return Ok(outcome);
+        let (store, journal) = if harts == 1 {
+            let (store, entries) = on_plain_port(run, accepted, members)?;
+            (store, Journal::Listed(entries))
+        } else if harts <= MOST_ON_WORDS {
+            let (store, closed) = on_board(run, accepted, members)?;
+            (store, Journal::Board(closed))
+        } else {
+            let (store, closed) = on_board(run, accepted, members)?;
+            (store, Journal::Wide(closed))
+        };
+        if is_complete(alloc, accepted, journal.entries())? {
+            return Ok(Outcome { store, journal });
         }
     }
     unreachable!()
-}
-
-// A run of the program, by ports of its own.
-fn run_once<R: Threads + Wait + Sync, F: Fn(u8, u16, u8, u8) + Sync>(
-    run: Run<'_, R, F>,
-    accepted: &Accepted<'_>,
-    members: TeamMode,
-) -> Result<Outcome, AllocError>
-    requires callable { F.IsAlwaysCallable run.pass.now }
-    requires tree { run.tree.now ≡ accepted.now.plan }
-    ensures store { IfOk result
-        (λ outcome. outcome.store ≡ final_store (program_of accepted.now.program)) }
-    ensures listed { IfOk result
-        (λ outcome. accepted.now.plan.harts ≡ 1 → IsListed outcome.journal) }
-    ensures board { IfOk result (λ outcome. 2 ≤ accepted.now.plan.harts
-        → accepted.now.plan.harts ≤ 4 → IsBoard outcome.journal) }
-    ensures wide { IfOk result
-        (λ outcome. 4 < accepted.now.plan.harts → IsWide outcome.journal) }
-    ensures short { IfOk result (λ outcome. length (entries_in outcome.journal) ≤ most_entries) }
-{
-    let harts = accepted.plan().harts();
-    if harts == 1 {
-        on_plain_port(run, accepted, members)
-    } else if harts <= MOST_ON_WORDS {
-        let (store, closed) = on_board(run, accepted, members)?;
-        let journal = Journal::Board(closed);
-        Ok(Outcome { store, journal })
-    } else {
-        let (store, closed) = on_board(run, accepted, members)?;
-        let journal = Journal::Wide(closed);
-        Ok(Outcome { store, journal })
-    }
 }
 
 // Whether a run's journal is complete for the sites that the program enters. Why a check at run time: lock-protected state

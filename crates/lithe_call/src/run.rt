@@ -6,11 +6,8 @@ ghost use Rattle.lithe_call.specs.Output.{IsAnswer, IsRunOutput, IsSummary};
 ghost use Rattle.lithe_call.specs.Faults.{IsNoOutput};
 ghost use Rattle.array_meaning.specs.Bounds.{most_bytes};
 ghost use Rattle.array_meaning.specs.Work.{final_store};
-ghost use Rattle.array_meaning.specs.Entered.{entered_of};
 ghost use Rattle.array_eval.specs.ArrayText.{array_text};
-ghost use Rattle.transfer_table.specs.Plan.{most_entries};
-ghost use Rattle.transfer_table.specs.Journal.{IsComplete};
-ghost use Rattle.lone_hart.specs.Journals.{entries_in};
+ghost use Rattle.hart_loop.specs.Outcomes.{IsOutcome};
 
 use crate::answer::{Answer, Ending};
 use crate::fault::Fault;
@@ -18,9 +15,8 @@ use crate::program::{checked, parsed};
 use crate::summing::write_summary;
 use array_eval::{run_one, write_arrays};
 use disjoint_check::Accepted;
-use hart_loop::run_harts;
+use hart_loop::{Outcome, run_alone, run_harts};
 use journal_text::write_entries;
-use lone_hart::{Outcome, run_alone};
 use outside_io::Gate;
 use program_maker::made_text;
 use std::alloc::{AllocError, Global};
@@ -110,10 +106,7 @@ pub(crate) fn run_text(
     accepted: &Accepted<'_>,
     outcome: &Outcome,
 ) -> Result<Vec<u8>, AllocError>
-    requires store { outcome.now.store ≡ final_store (program_of accepted.now.program) }
-    requires journal { IsComplete accepted.now.plan (entered_of (program_of accepted.now.program))
-        (entries_in outcome.now.journal) }
-    requires short { length (entries_in outcome.now.journal) ≤ most_entries }
+    requires { IsOutcome accepted.now outcome.now }
     ensures { IfOk result (λ text.
         IsRunOutput (program_of accepted.now.program) accepted.now.plan.harts text.items) }
 {
@@ -151,12 +144,7 @@ pub(crate) fn outcome<R: Threads + Wait + Sync, G: Gate>(
     gate: &G,
     accepted: &Accepted<'_>,
 ) -> Result<Outcome, AllocError>
-    ensures store { IfOk result
-        (λ outcome. outcome.store ≡ final_store (program_of accepted.now.program)) }
-    ensures journal { IfOk result
-        (λ outcome. IsComplete accepted.now.plan (entered_of (program_of accepted.now.program))
-        (entries_in outcome.journal)) }
-    ensures short { IfOk result (λ outcome. length (entries_in outcome.journal) ≤ most_entries) }
+    ensures { IfOk result (IsOutcome accepted.now) }
 {
     if accepted.plan().harts() == 1 {
         run_alone(alloc, accepted)

@@ -3,7 +3,7 @@ use array_eval::Store;
 use array_lang::parse;
 use array_tree::Program;
 use disjoint_check::check;
-use lone_hart::{Outcome, run_alone};
+use hart_loop::{Outcome, run_alone};
 use std::alloc::Global;
 use std::test::Fail;
 use transfer_table::Entry;

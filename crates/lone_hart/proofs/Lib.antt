@@ -3,5 +3,4 @@ pub mod Hearings
 pub mod ServedPools
 pub mod ServedSites
 pub mod ServedTeams
-pub mod Stores
 pub mod TeamAccounts

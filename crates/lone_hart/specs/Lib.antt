@@ -1,4 +1,3 @@
 pub mod Accounts
 pub mod Sites
-pub mod Journals
 pub mod Served

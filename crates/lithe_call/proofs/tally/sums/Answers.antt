@@ -7,7 +7,7 @@ use Rattle.array_meaning.specs.Work.{final_store}
 use Rattle.array_meaning.specs.Entered.{entered_of}
 use Rattle.array_meaning.proofs.InsideLemmas.{sized_in_range}
 use Rattle.array_eval.specs.ArrayText.{array_text}
-use Rattle.lone_hart.specs.Journals.{entries_in}
+use Rattle.hart_loop.specs.Journals.{entries_in}
 use Rattle.lithe_call.specs.Programs.{table_plan}
 use Rattle.lithe_call.proofs.Runs.{final_cells, printed_plan}
 use Rattle.lithe_call.proofs.Tallying.{kept_cells, enough_cells}

@@ -1,27 +1,21 @@
 //! Runs on one hart.
-ghost use Rattle.std.specs.Prelude.{◌≡◌, ◌≤◌, true, [], IfOk, OnOk, length};
-ghost use Rattle.array_tree.specs.Trees.{ProgramTree, program_of};
-ghost use Rattle.array_meaning.specs.Work.{final_store};
+ghost use Rattle.std.specs.Prelude.{◌≡◌, true, [], IfOk, OnOk};
+ghost use Rattle.array_tree.specs.Trees.{program_of};
 ghost use Rattle.array_meaning.specs.Plans.{plan_of};
-ghost use Rattle.array_meaning.specs.Entered.{entered_of};
-ghost use Rattle.transfer_table.specs.Plan.{most_entries};
-ghost use Rattle.transfer_table.specs.Journal.{IsComplete};
 ghost use Rattle.array_jobs.specs.Jobs.{job_of};
 ghost use Rattle.array_jobs.specs.Bodies.{body_of};
-ghost use Rattle.array_jobs.specs.PieceParts.{piece_of_job};
 ghost use Rattle.job_machines.specs.Machines.{IsRunJob};
 ghost use Rattle.site_steps.specs.Back.{IsSettled, IsBack};
-ghost use Rattle.lone_hart.specs.Journals.{entries_in, IsListed};
+ghost use Rattle.hart_loop.specs.Journals.{IsListed};
+ghost use Rattle.hart_loop.specs.Outcomes.{IsOutcome};
 
-use crate::lone::LoneSites;
-use crate::outcome::{Journal, Outcome};
-use crate::site::LoneSite;
-use array_eval::{Overlay, Store};
+use crate::outcome::{Journal, Outcome, store_after};
 use array_jobs::{Job, Piece, body_job};
 use base_sched::Base;
 use disjoint_check::Accepted;
 use hart_port::PlainPort;
 use hart_work::{Run, run_piece};
+use lone_hart::{LoneSite, LoneSites};
 use site_steps::SiteTree;
 use std::alloc::{AllocError, Global};
 
@@ -40,13 +34,8 @@ use std::alloc::{AllocError, Global};
 /// It allocates the store, the journal, and a machine and an overlay for each piece.
 pub fn run_alone(alloc: Global, accepted: &Accepted<'_>) -> Result<Outcome, AllocError>
     requires { accepted.now.plan.harts ≡ 1 }
-    ensures store { IfOk result
-        (λ outcome. outcome.store ≡ final_store (program_of accepted.now.program)) }
-    ensures journal { IfOk result
-        (λ outcome. IsComplete accepted.now.plan (entered_of (program_of accepted.now.program))
-        (entries_in outcome.journal)) }
+    ensures outcome { IfOk result (IsOutcome accepted.now) }
     ensures listed { IfOk result (λ outcome. IsListed outcome.journal) }
-    ensures short { IfOk result (λ outcome. length (entries_in outcome.journal) ≤ most_entries) }
 {
     let plan = accepted.plan();
     let tree = SiteTree::new(alloc, plan)?;
@@ -89,29 +78,4 @@ fn run_body<'p>(
         pass: &pass,
     };
     run_piece(run, port, (), &mut LoneSites::new(), &mut base, job)
-}
-
-/// The store after the piece of a program's body.
-///
-/// # Errors
-///
-/// `AllocError` if an allocation fails.
-///
-/// # Memory
-///
-/// It allocates a list of pages, and each page that it writes.
-pub fn store_after(piece: Piece<'_>) -> Result<Store, AllocError>
-    ensures { IfOk result (λ store. (program : ProgramTree)
-        → job_of piece.entry.job ≡ body_of program → store ≡ final_store program) }
-{
-    store_of(&piece.job, &piece.written)
-}
-
-// The store of a job after its writes.
-fn store_of(job: &Job<'_>, written: &Overlay) -> Result<Store, AllocError>
-    requires { written.now.pairs ≡ piece_of_job (job_of job.now) }
-    ensures { IfOk result (λ store. (program : ProgramTree) → job_of job.now ≡ body_of program
-        → store ≡ final_store program) }
-{
-    job.store.with(written)
 }

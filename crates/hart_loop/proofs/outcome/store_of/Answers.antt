@@ -5,8 +5,8 @@ use Rattle.array_meaning.specs.Stores.{after}
 use Rattle.array_jobs.specs.Jobs.{job_of}
 use Rattle.array_jobs.specs.PieceParts.{piece_of_job}
 use Rattle.join_book.proofs.BookLemmas.{piece_below}
-use Rattle.lone_hart.proofs.Stores.{body_store}
-use Rattle.lone_hart.proofs.run.store_of.Goals as goal
+use Rattle.hart_loop.proofs.Stores.{body_store}
+use Rattle.hart_loop.proofs.outcome.store_of.Goals as goal
 
 pub with-requires : goal.with-requires
 with-requires c =

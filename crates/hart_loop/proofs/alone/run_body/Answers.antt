@@ -6,7 +6,7 @@ use Rattle.array_jobs.specs.Jobs.{job_of}
 use Rattle.array_jobs.specs.Bodies.{body_of}
 use Rattle.job_machines.specs.Machines.{IsFreshJob}
 use Rattle.job_machines.proofs.Jobs.{bodies_are_fresh}
-use Rattle.lone_hart.proofs.run.run_body.Goals as goal
+use Rattle.hart_loop.proofs.alone.run_body.Goals as goal
 
 pub run_piece-requires-clause-fresh : goal.run_piece-requires-clause-fresh
 run_piece-requires-clause-fresh c = λ alone.

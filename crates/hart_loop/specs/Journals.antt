@@ -1,8 +1,8 @@
--- The entries of a journal.
-use Rattle.std.specs.Prelude.{List}
+-- The entries of a journal, and the kinds of journals.
+use Rattle.std.specs.Prelude.{◌≡◌, ◌≤◌, ◌<◌, ℕ, List}
 use Rattle.transfer_table.specs.declared.entry.Entry.{Entry}
-use Rattle.lone_hart.specs.declared.outcome.Journal.{Journal}
-use Rattle.lone_hart.specs.declared.outcome.Journal.TheVariants.{Listed, Board, Wide}
+use Rattle.hart_loop.specs.declared.outcome.Journal.{Journal}
+use Rattle.hart_loop.specs.declared.outcome.Journal.TheVariants.{Listed, Board, Wide}
 
 -- The entries of a journal, from its list or its board.
 abbrev pub entries_in : Journal → List Entry
@@ -24,3 +24,9 @@ IsBoard journal = ⊥
 abbrev pub IsWide : Journal → Type 0
 IsWide (Wide entries) = Unit {0}
 IsWide journal = ⊥
+
+-- The journal is of the kind for this number of harts.
+pub record IsOfKind (harts : ℕ) (journal : Journal) : Type 0 where
+  pub listed : harts ≡ 1 → IsListed journal
+  pub board : 2 ≤ harts → harts ≤ 4 → IsBoard journal
+  pub wide : 4 < harts → IsWide journal

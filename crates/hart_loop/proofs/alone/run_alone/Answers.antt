@@ -9,13 +9,10 @@ use Rattle.transfer_table.proofs.Bounds.{few_entries}
 use Rattle.array_jobs.specs.Bodies.{body_of}
 use Rattle.job_machines.specs.Machines.{IsRunJob}
 use Rattle.job_machines.proofs.Jobs.{bodies_are_run}
-use Rattle.lone_hart.proofs.run.run_alone.Goals as goal
+use Rattle.hart_loop.proofs.alone.run_alone.Goals as goal
 
-pub returns-clause-store : goal.returns-clause-store
-returns-clause-store c = c.in_ok-store.ensures (program_of c.args.accepted.now.program) c.in_ok-piece.ensures.piece
-
-pub returns-clause-journal : goal.returns-clause-journal
-returns-clause-journal c =
+pub returns-clause-outcome : goal.returns-clause-outcome
+returns-clause-outcome c =
     let program = program_of c.args.accepted.now.program in
     let port = c.run_body.new.port in
     let tree = c.in_ok-tree.tree in
@@ -28,12 +25,10 @@ returns-clause-journal c =
     let ran : IsRunJob tree [] port.view.mine (body_of program) = c.in_ok-piece.ensures.ran alone in
     let legal : Reaches tree port.view.mine port.state = subst (λ p. Reaches p port.view.mine port.state) plan c.finish.ensures.legal in
     let complete : IsComplete tree (entered_of program) port.view.mine = bodies_are_run program tree port.view.mine port.state (ap (λ p. p.parents) is_tree ∙ c.plan-plan.ensures.kept.parents) is_plan legal ran in
-    subst (λ p. IsComplete p (entered_of program) c.finish.result) is_tree
-    (subst (λ (es : List Entry). IsComplete tree (entered_of program) es) (sym c.finish.ensures.entries) complete)
-
-pub returns-clause-short : goal.returns-clause-short
-returns-clause-short c =
-    let port = c.run_body.new.port in
-    let same : port.view.plan ≡ c.plan-plan.result.now = c.run_body.ensures.back.plan ∙ ap (λ p. p.view.plan) c.in_ok-port.ensures in
-    let is_plan : IsPlan port.view.plan = subst IsPlan (c.tree.view_is ∙ c.in_ok-tree.ensures ∙ sym same) c.tree.invariant.plan in
-    subst (λ (es : List Entry). length es ≤ 65535) (sym c.finish.ensures.entries) (few_entries port.view.plan is_plan port.view.mine port.state c.finish.ensures.legal)
+    let of_port : IsPlan port.view.plan = subst IsPlan (sym plan) is_plan in
+    record {
+      store = c.in_ok-store.ensures program c.in_ok-piece.ensures.piece;
+      journal = subst (λ p. IsComplete p (entered_of program) c.finish.result) is_tree
+          (subst (λ (es : List Entry). IsComplete tree (entered_of program) es) (sym c.finish.ensures.entries) complete);
+      short = subst (λ (es : List Entry). length es ≤ 65535) (sym c.finish.ensures.entries) (few_entries port.view.plan of_port port.view.mine port.state c.finish.ensures.legal);
+    }
