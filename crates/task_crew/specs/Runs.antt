@@ -1,11 +1,14 @@
 -- The end of a run.
-use Rattle.std.specs.Prelude.{◌≡◌, ◌≢◌, ◌<◌, ◌⊎◌, ℕ, List, length}
+use Rattle.std.specs.Prelude.{◌≡◌, ◌≢◌, ◌<◌, ◌≤◌, ◌⊎◌, ℕ, List, length}
+use Rattle.std.specs.List.{All}
 use Rattle.atomic_table.specs.Seated.{TableId}
 use Rattle.open_table.specs.declared.table.Size.{Size}
+use Rattle.open_board.specs.declared.board.OpenBoard.{OpenBoard}
 use Rattle.open_board.specs.declared.seat.OpenSeat.{OpenSeat}
 use Rattle.open_board.specs.declared.ending.NotEnded.{NotEnded as Cause}
 use Rattle.open_board.specs.declared.ending.NotEnded.TheVariants.{WrongCount, OutOfOrder, InSite}
 use Rattle.open_board.specs.Ending.{HasFinished, IsHomeAgain}
+use Rattle.open_board.specs.Of.{IsOf}
 use Rattle.task_crew.specs.declared.error.RunError.{RunError}
 use Rattle.task_crew.specs.declared.error.RunError.TheVariants.{HartCount, LevelCount, Task, NotEnded}
 
@@ -32,3 +35,10 @@ AllAreHome size seats =
 -- A seat is at the board with these words and this size.
 abbrev pub IsSeatOf : TableId → Size → OpenSeat → Type 0
 IsSeatOf table size seat = (seat.seat.table_id ≡ table) × (seat.seat.me.0.size ≡ size)
+
+-- The board has these words and this size, and there are seats, all of them of this board.
+pub record AreSeated (table : TableId) (size : Size) (board : OpenBoard) (seats : List OpenSeat) : Type 0 where
+  pub words : board.table.shared.table_id ≡ table
+  pub same_size : board.size ≡ size
+  pub each : All (IsOf board) seats
+  pub some : 1 ≤ length seats

@@ -1,12 +1,10 @@
 //! Runs with at most eight levels.
-ghost use Rattle.std.specs.Prelude.{◌≡◌, ◌<◌, ◌≤◌, ◌⊎◌, IfOk, IfErr, vec_len, alloc_error, Err};
-ghost use Rattle.std.specs.List.{All};
-ghost use Rattle.open_board.specs.Of.{IsOf};
-ghost use Rattle.task_crew.specs.Runs.{RunFails};
+ghost use Rattle.std.specs.Prelude.{◌≡◌, ◌<◌, ◌≤◌, ◌⊎◌, IfOk, IfErr, alloc_error, Err};
+ghost use Rattle.task_crew.specs.Runs.{RunFails, AreSeated};
 
 use crate::error::RunError;
-use crate::run::{FourMore, MOST_HARTS, run_four_more};
-use open_board::{OpenBoard, OpenSeat};
+use crate::run::{FourMore, MOST_HARTS, Run, run_four_more};
+use open_board::OpenBoard;
 use std::alloc::Global;
 use std::marker::Brand;
 use std::sync::Wait;
@@ -85,35 +83,34 @@ where
         return Err(RunError::LevelCount(levels));
     }
     match OpenBoard::new(alloc, harts, levels.max(1)) {
-        Ok((board, seats)) => run_eight::<Brand, T, R>(rt, alloc, board, seats, levels, task),
+        Ok((board, seats)) => run_eight::<Brand, T, R>(
+            rt,
+            Run {
+                alloc,
+                board,
+                seats,
+                levels,
+                task,
+            },
+        ),
         Err(error) => Err(RunError::Task(T::Error::from(error))),
     }
 }
 
 // Runs a task on the harts of a board, with at most eight levels, and ends the board.
-fn run_eight<B, T, R>(
-    rt: &R,
-    alloc: Global,
-    board: OpenBoard,
-    seats: Vec<OpenSeat>,
-    levels: u8,
-    task: T,
-) -> Result<T::Output, RunError<T::Error>>
+fn run_eight<B, T, R>(rt: &R, run: Run<T>) -> Result<T::Output, RunError<T::Error>>
 where
     B: Naming + Send + Sync,
     T: Task + Send,
     R: Threads + Observer + Sync,
     T::Output: Send,
     T::Error: Send,
-    requires board { board.table.shared.table_id ≡ B.table }
-    requires size { board.size ≡ B.size }
-    requires seats { All (IsOf board) seats.items }
-    requires some { 1 ≤ vec_len seats }
-    requires depth { T.depth task ≤ levels }
-    requires levels { levels ≤ 8 }
-    ensures output { IfOk result (λ output. T.gives task output) }
+    requires seated { AreSeated B.table B.size run.board run.seats.items }
+    requires depth { T.depth run.task ≤ run.levels }
+    requires levels { run.levels ≤ 8 }
+    ensures output { IfOk result (λ output. T.gives run.task output) }
     ensures error { IfErr result
-        (RunFails 8 board.size.harts levels (T.fails task) (T.Error.from_gives alloc_error)) }
+        (RunFails 8 run.board.size.harts run.levels (T.fails run.task) (T.Error.from_gives alloc_error)) }
 {
-    run_four_more::<B, T, R, FourMore<NoLevel>>(rt, alloc, board, seats, levels, task)
+    run_four_more::<B, T, R, FourMore<NoLevel>>(rt, run)
 }

@@ -3,7 +3,7 @@ ghost use Rattle.std.specs.Prelude.{◌≡◌, ◌<◌, ◌≤◌, ◌+◌, ◌�
 ghost use Rattle.std.specs.List.{All};
 ghost use Rattle.open_board.specs.Of.{IsOf};
 ghost use Rattle.task_table.specs.Slots.{Ends};
-ghost use Rattle.task_crew.specs.Runs.{RunFails, IsReason, IsSeatOf, AllAreHome};
+ghost use Rattle.task_crew.specs.Runs.{RunFails, IsReason, IsSeatOf, AreSeated, AllAreHome};
 
 use crate::error::RunError;
 use open_board::{EndRefused, NotEnded, OpenBoard, OpenSeat};
@@ -21,6 +21,15 @@ pub const MOST_HARTS: u8 = 64;
 
 /// The most levels of a run.
 pub const MOST_LEVELS: u8 = 16;
+
+/// A task that is to run with at most `levels` levels inside it, and the board and the seats of the harts on which it runs.
+pub(crate) struct Run<T> {
+    pub alloc: Global,
+    pub board: OpenBoard,
+    pub seats: Vec<OpenSeat>,
+    pub levels: u8,
+    pub task: T,
+}
 
 /// Four levels more than `L`. Why four at a time: a goal that names sixteen is too large to prove.
 pub(crate) type FourMore<L> = OneMore<OneMore<OneMore<OneMore<L>>>>;
@@ -103,48 +112,40 @@ where
         return Err(RunError::LevelCount(levels));
     }
     match OpenBoard::new(alloc, harts, levels.max(1)) {
-        Ok((board, seats)) => run_sixteen::<Brand, T, R>(rt, alloc, board, seats, levels, task),
+        Ok((board, seats)) => run_sixteen::<Brand, T, R>(
+            rt,
+            Run {
+                alloc,
+                board,
+                seats,
+                levels,
+                task,
+            },
+        ),
         Err(error) => Err(RunError::Task(T::Error::from(error))),
     }
 }
 
 // Runs a task on the harts of a board, with at most sixteen levels, and ends the board.
-fn run_sixteen<B, T, R>(
-    rt: &R,
-    alloc: Global,
-    board: OpenBoard,
-    seats: Vec<OpenSeat>,
-    levels: u8,
-    task: T,
-) -> Result<T::Output, RunError<T::Error>>
+fn run_sixteen<B, T, R>(rt: &R, run: Run<T>) -> Result<T::Output, RunError<T::Error>>
 where
     B: Naming + Send + Sync,
     T: Task + Send,
     R: Threads + Observer + Sync,
     T::Output: Send,
     T::Error: Send,
-    requires board { board.table.shared.table_id ≡ B.table }
-    requires size { board.size ≡ B.size }
-    requires seats { All (IsOf board) seats.items }
-    requires some { 1 ≤ vec_len seats }
-    requires depth { T.depth task ≤ levels }
-    requires levels { levels ≤ 16 }
-    ensures output { IfOk result (λ output. T.gives task output) }
+    requires seated { AreSeated B.table B.size run.board run.seats.items }
+    requires depth { T.depth run.task ≤ run.levels }
+    requires levels { run.levels ≤ 16 }
+    ensures output { IfOk result (λ output. T.gives run.task output) }
     ensures error { IfErr result
-        (RunFails 16 board.size.harts levels (T.fails task) (T.Error.from_gives alloc_error)) }
+        (RunFails 16 run.board.size.harts run.levels (T.fails run.task) (T.Error.from_gives alloc_error)) }
 {
-    run_twelve_more::<B, T, R, FourMore<NoLevel>>(rt, alloc, board, seats, levels, task)
+    run_twelve_more::<B, T, R, FourMore<NoLevel>>(rt, run)
 }
 
 // The same, with at most twelve levels more than `L`.
-fn run_twelve_more<B, T, R, L>(
-    rt: &R,
-    alloc: Global,
-    board: OpenBoard,
-    seats: Vec<OpenSeat>,
-    levels: u8,
-    task: T,
-) -> Result<T::Output, RunError<T::Error>>
+fn run_twelve_more<B, T, R, L>(rt: &R, run: Run<T>) -> Result<T::Output, RunError<T::Error>>
 where
     B: Naming + Send + Sync,
     T: Task + Send,
@@ -152,28 +153,18 @@ where
     L: Levels<T, R, B> + Send + Sync,
     T::Output: Send,
     T::Error: Send,
-    requires board { board.table.shared.table_id ≡ B.table }
-    requires size { board.size ≡ B.size }
-    requires seats { All (IsOf board) seats.items }
-    requires some { 1 ≤ vec_len seats }
-    requires depth { T.depth task ≤ levels }
-    requires levels { levels ≤ 12 + L.count }
-    ensures output { IfOk result (λ output. T.gives task output) }
+    requires seated { AreSeated B.table B.size run.board run.seats.items }
+    requires depth { T.depth run.task ≤ run.levels }
+    requires levels { run.levels ≤ 12 + L.count }
+    ensures output { IfOk result (λ output. T.gives run.task output) }
     ensures error { (most : ℕ) → IfErr result
-        (RunFails most board.size.harts levels (T.fails task) (T.Error.from_gives alloc_error)) }
+        (RunFails most run.board.size.harts run.levels (T.fails run.task) (T.Error.from_gives alloc_error)) }
 {
-    run_eight_more::<B, T, R, FourMore<L>>(rt, alloc, board, seats, levels, task)
+    run_eight_more::<B, T, R, FourMore<L>>(rt, run)
 }
 
 // The same, with at most eight levels more than `L`.
-fn run_eight_more<B, T, R, L>(
-    rt: &R,
-    alloc: Global,
-    board: OpenBoard,
-    seats: Vec<OpenSeat>,
-    levels: u8,
-    task: T,
-) -> Result<T::Output, RunError<T::Error>>
+fn run_eight_more<B, T, R, L>(rt: &R, run: Run<T>) -> Result<T::Output, RunError<T::Error>>
 where
     B: Naming + Send + Sync,
     T: Task + Send,
@@ -181,27 +172,20 @@ where
     L: Levels<T, R, B> + Send + Sync,
     T::Output: Send,
     T::Error: Send,
-    requires board { board.table.shared.table_id ≡ B.table }
-    requires size { board.size ≡ B.size }
-    requires seats { All (IsOf board) seats.items }
-    requires some { 1 ≤ vec_len seats }
-    requires depth { T.depth task ≤ levels }
-    requires levels { levels ≤ 8 + L.count }
-    ensures output { IfOk result (λ output. T.gives task output) }
+    requires seated { AreSeated B.table B.size run.board run.seats.items }
+    requires depth { T.depth run.task ≤ run.levels }
+    requires levels { run.levels ≤ 8 + L.count }
+    ensures output { IfOk result (λ output. T.gives run.task output) }
     ensures error { (most : ℕ) → IfErr result
-        (RunFails most board.size.harts levels (T.fails task) (T.Error.from_gives alloc_error)) }
+        (RunFails most run.board.size.harts run.levels (T.fails run.task) (T.Error.from_gives alloc_error)) }
 {
-    run_four_more::<B, T, R, FourMore<L>>(rt, alloc, board, seats, levels, task)
+    run_four_more::<B, T, R, FourMore<L>>(rt, run)
 }
 
 /// The same, with at most four levels more than `L`.
 pub(crate) fn run_four_more<B, T, R, L>(
     rt: &R,
-    alloc: Global,
-    board: OpenBoard,
-    seats: Vec<OpenSeat>,
-    levels: u8,
-    task: T,
+    run: Run<T>,
 ) -> Result<T::Output, RunError<T::Error>>
 where
     B: Naming + Send + Sync,
@@ -210,28 +194,18 @@ where
     L: Levels<T, R, B> + Send + Sync,
     T::Output: Send,
     T::Error: Send,
-    requires board { board.table.shared.table_id ≡ B.table }
-    requires size { board.size ≡ B.size }
-    requires seats { All (IsOf board) seats.items }
-    requires some { 1 ≤ vec_len seats }
-    requires depth { T.depth task ≤ levels }
-    requires levels { levels ≤ 4 + L.count }
-    ensures output { IfOk result (λ output. T.gives task output) }
+    requires seated { AreSeated B.table B.size run.board run.seats.items }
+    requires depth { T.depth run.task ≤ run.levels }
+    requires levels { run.levels ≤ 4 + L.count }
+    ensures output { IfOk result (λ output. T.gives run.task output) }
     ensures error { (most : ℕ) → IfErr result
-        (RunFails most board.size.harts levels (T.fails task) (T.Error.from_gives alloc_error)) }
+        (RunFails most run.board.size.harts run.levels (T.fails run.task) (T.Error.from_gives alloc_error)) }
 {
-    run_named::<B, T, R, FourMore<L>>(rt, alloc, board, seats, levels, task)
+    run_named::<B, T, R, FourMore<L>>(rt, run)
 }
 
 // Runs a task on the harts of a board, with the levels of `L`, and ends the board.
-fn run_named<B, T, R, L>(
-    rt: &R,
-    alloc: Global,
-    board: OpenBoard,
-    seats: Vec<OpenSeat>,
-    levels: u8,
-    task: T,
-) -> Result<T::Output, RunError<T::Error>>
+fn run_named<B, T, R, L>(rt: &R, run: Run<T>) -> Result<T::Output, RunError<T::Error>>
 where
     B: Naming + Send + Sync,
     T: Task + Send,
@@ -239,16 +213,20 @@ where
     L: Levels<T, R, B> + Send + Sync,
     T::Output: Send,
     T::Error: Send,
-    requires board { board.table.shared.table_id ≡ B.table }
-    requires size { board.size ≡ B.size }
-    requires seats { All (IsOf board) seats.items }
-    requires some { 1 ≤ vec_len seats }
-    requires depth { T.depth task ≤ levels }
-    requires levels { levels ≤ L.count }
-    ensures output { IfOk result (λ output. T.gives task output) }
+    requires seated { AreSeated B.table B.size run.board run.seats.items }
+    requires depth { T.depth run.task ≤ run.levels }
+    requires levels { run.levels ≤ L.count }
+    ensures output { IfOk result (λ output. T.gives run.task output) }
     ensures error { (most : ℕ) → IfErr result
-        (RunFails most board.size.harts levels (T.fails task) (T.Error.from_gives alloc_error)) }
+        (RunFails most run.board.size.harts run.levels (T.fails run.task) (T.Error.from_gives alloc_error)) }
 {
+    let Run {
+        alloc,
+        board,
+        seats,
+        levels,
+        task,
+    } = run;
     let crew = match Crew::<T, B>::new(alloc, board) {
         Ok(crew) => crew,
         Err(error) => return Err(RunError::Task(T::Error::from(error))),
