@@ -8,13 +8,12 @@ use Rattle.journal_picture.specs.Stays.{stays_of}
 use Rattle.std.specs.Fmt.{decimal}
 use Rattle.std.proofs.lemmas.List.{drop_more}
 use Rattle.transfer_table.specs.declared.entry.Entry.TheVariants.{Enter}
-use Rattle.journal_picture.specs.declared.shape.Shape.{Shape}
 use Rattle.journal_picture.specs.declared.stay.Stay.{Stay}
 use Rattle.journal_picture.specs.declared.strip.Figures.{Figures}
 use Rattle.journal_picture.specs.Scale.{lane_y}
 use Rattle.journal_picture.specs.SvgBars.{bars_text, lanes_svg, part_text, parts_text}
 use Rattle.journal_picture.specs.SvgMarks.{figures_svg, hart_at, harts_svg, row_names, rows_svg, strip_svg}
-use Rattle.journal_picture.specs.declared.visits.Visits.{Visits}
+use Rattle.journal_picture.specs.Views.{View}
 use Rattle.journal_picture.specs.SvgTable.{listed_row, rows_from}
 use Rattle.journal_picture.specs.Travels.{travels_from, travels_in}
 use Rattle.journal_picture.specs.TextPicture.{band_text, bands_text, cell, lanes_of, numbers_text, sites_of, steps_up}
@@ -54,31 +53,29 @@ numbers_more at i es lt =
     ap (numbers_text (at + i)) (drop_more es i (Enter 0 0) lt)
     ∙ ap (λ k. cell (decimal (at + i)) ++ numbers_text k (drop (i + 1) es)) (omega arith)
 
-pub svg_lanes_more : (p : Plan) (shapes : List Shape) (es : List Entry) (n i : ℕ) → i < n
-    → lanes_svg p shapes es i (n - i) ≡ bars_text p shapes (length es) (stays_of p i es) ++ lanes_svg p shapes es (i + 1) (n - (i + 1))
-svg_lanes_more p shapes es n i lt = one_more (λ k. lanes_svg p shapes es i k) n i lt
+pub svg_lanes_more : (v : View) (n i : ℕ) → i < n
+    → lanes_svg v i (n - i) ≡ bars_text v (stays_of v.plan i v.list) ++ lanes_svg v (i + 1) (n - (i + 1))
+svg_lanes_more v n i lt = one_more (λ k. lanes_svg v i k) n i lt
 
 pub harts_more : (top n i : ℕ) → i < n
     → harts_svg top i (n - i) ≡ hart_at (lane_y top i + 34) i ++ harts_svg top (i + 1) (n - (i + 1))
 harts_more top n i lt = one_more (λ k. harts_svg top i k) n i lt
 
-pub rows_more : (p : Plan) (end n i : ℕ) → i < n
-    → rows_svg p end i (n - i) ≡ row_names p end i ++ rows_svg p end (i + 1) (n - (i + 1))
-rows_more p end n i lt = one_more (λ k. rows_svg p end i k) n i lt
+pub rows_more : (v : View) (n i : ℕ) → i < n → rows_svg v i (n - i) ≡ row_names v i ++ rows_svg v (i + 1) (n - (i + 1))
+rows_more v n i lt = one_more (λ k. rows_svg v i k) n i lt
 
-pub parts_more : (p : Plan) (shapes : List Shape) (end : ℕ) (stay : Stay) (row n i : ℕ) → i < n
-    → parts_text p shapes end stay (row + i) (n - i) ≡ part_text p shapes end stay (row + i) ++ parts_text p shapes end stay (row + (i + 1)) (n - (i + 1))
-parts_more p shapes end stay row n i lt =
-    one_more (λ k. parts_text p shapes end stay (row + i) k) n i lt
-    ∙ ap (λ r. part_text p shapes end stay (row + i) ++ parts_text p shapes end stay r (n - (i + 1))) (omega arith)
+pub parts_more : (v : View) (stay : Stay) (row n i : ℕ) → i < n
+    → parts_text v stay (row + i) (n - i) ≡ part_text v stay (row + i) ++ parts_text v stay (row + (i + 1)) (n - (i + 1))
+parts_more v stay row n i lt =
+    one_more (λ k. parts_text v stay (row + i) k) n i lt
+    ∙ ap (λ r. part_text v stay (row + i) ++ parts_text v stay r (n - (i + 1))) (omega arith)
 
-pub strip_more : (p : Plan) (end : ℕ) (t : TableState) (i : ℕ) (es : List Entry) (other : Entry) → i < length es
-    → strip_svg p end t i (drop i es) ≡ figures_svg p end t i ++ strip_svg p end (or_same t (admit_of p t (get_or es i other))) (i + 1) (drop (i + 1) es)
-strip_more p end t i es other lt = ap (strip_svg p end t i) (drop_more es i other lt)
+pub strip_more : (v : View) (t : TableState) (i : ℕ) (es : List Entry) (other : Entry) → i < length es
+    → strip_svg v t i (drop i es) ≡ figures_svg v t i ++ strip_svg v (or_same t (admit_of v.plan t (get_or es i other))) (i + 1) (drop (i + 1) es)
+strip_more v t i es other lt = ap (strip_svg v t i) (drop_more es i other lt)
 
-pub rows_from_more : (p : Plan) (t : TableState) (vs : List Visits) (shapes : List Shape) (top s n i : ℕ) → i < n
-    → rows_from p t vs shapes top s (n - i) ≡ listed_row p t vs shapes top s ++ rows_from p t vs shapes top (s + 1) (n - (i + 1))
-rows_from_more p t vs shapes top s n i lt = one_more (λ k. rows_from p t vs shapes top s k) n i lt
+pub rows_from_more : (v : View) (s n i : ℕ) → i < n → rows_from v s (n - i) ≡ listed_row v s ++ rows_from v (s + 1) (n - (i + 1))
+rows_from_more v s n i lt = one_more (λ k. rows_from v s k) n i lt
 
 pub travels_more : (p : Plan) (es : List Entry) (n h : ℕ) → h < n
     → travels_from p es h (n - h) ≡ travels_in p es h ∷ travels_from p es (h + 1) (n - (h + 1))

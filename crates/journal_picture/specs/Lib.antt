@@ -5,6 +5,8 @@ pub mod Faults
 pub mod Strip
 pub mod Visits
 pub mod Travels
+pub mod Texts
+pub mod Views
 pub mod TextPicture
 pub mod Scale
 pub mod SvgBars

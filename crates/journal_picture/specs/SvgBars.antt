@@ -2,14 +2,13 @@
 use Rattle.std.specs.Prelude.{ℕ, zero, suc, ◌+◌, ◌-◌, ◌*◌, ◌/◌, ◌==◌, nat_le, min, max, Bool, if◌then◌else◌, List, [], ◌∷◌, ◌++◌, codes, length, slice_get, Option, Some, None}
 use Rattle.std.specs.List.{concat, flat_map}
 use Rattle.std.specs.Fmt.{decimal}
-use Rattle.transfer_table.specs.Plan.{Plan}
-use Rattle.transfer_table.specs.declared.entry.Entry.{Entry}
 use Rattle.journal_picture.specs.declared.stay.Stay.{Stay}
 use Rattle.journal_picture.specs.declared.shape.Shape.{Shape}
 use Rattle.journal_picture.specs.Kinds.{kind_text}
 use Rattle.journal_picture.specs.Stays.{stays_of}
 use Rattle.journal_picture.specs.Scale.{step_of, per_row, row_of, is_shown, place_x, row_y, level_of, bar_y}
 use Rattle.journal_picture.specs.TextPicture.{last_or, site_name}
+use Rattle.journal_picture.specs.Views.{View}
 
 -- The shape of the site; the base has no shape.
 abbrev pub shape_of : List Shape → ℕ → Option Shape
@@ -42,14 +41,11 @@ fill_text (Some shape) h level = site_fill shape.phased level
 
 -- ---- the title of a bar: the hart, the site with its kind and line, and from which entry to which the hart is there
 
--- The kind and the source line of a site, in words.
-abbrev pub about_by : List ℕ → ℕ → List ℕ
-about_by kind line = concat (codes ", " ∷ kind ∷ codes ", line " ∷ decimal line ∷ [])
-
--- The words of a bar's title about the site's shape. For the base, the words about what the hart does there.
+-- The words of a bar's title about the site's shape: its kind and its source line. For the base, what the hart does there.
 abbrev pub about_text : Option Shape → ℕ → List ℕ
 about_text None h = if h == 0 then codes ", the program's body" else codes ", idle"
-about_text (Some shape) h = about_by (kind_text shape.kind) shape.line
+about_text (Some shape) h =
+    concat (codes ", " ∷ kind_text shape.kind ∷ codes ", line " ∷ decimal shape.line ∷ [])
 
 -- The first entry of a stay, in words.
 abbrev pub since_text : ℕ → List ℕ
@@ -61,16 +57,12 @@ abbrev pub until_text : Option ℕ → List ℕ
 until_text None = codes " to the end"
 until_text (Some last) = codes " to entry " ++ decimal last
 
--- The title of a bar, joined from its parts.
-unfoldable pub title_by : ℕ → List ℕ → List ℕ → List ℕ → List ℕ → List ℕ
-title_by h name about since until =
-    concat (codes "h" ∷ decimal h ∷ codes " in " ∷ name ∷ about ∷ since ∷ until ∷ [])
-
 -- The title of a stay's bar.
 abbrev pub stay_title : List Shape → Stay → List ℕ
 stay_title shapes stay =
-    title_by stay.hart (site_name stay.site) (about_text (shape_of shapes stay.site) stay.hart)
-    (since_text stay.first) (until_text stay.last)
+    concat (codes "h" ∷ decimal stay.hart ∷ codes " in " ∷ site_name stay.site ∷
+    about_text (shape_of shapes stay.site) stay.hart ∷ since_text stay.first ∷
+    until_text stay.last ∷ [])
 
 -- ---- a bar
 
@@ -81,78 +73,70 @@ rect_text x y width fill title =
     decimal width ∷ codes "' height='14' fill='" ∷ fill ∷ codes "'><title>" ∷ title ∷
     codes "</title></rect>\n" ∷ [])
 
--- The words of a bar's label as SVG, at this position.
-abbrev pub words_text : ℕ → ℕ → List ℕ → List ℕ → List ℕ
-words_text x y name word =
-    concat (codes "<text x='" ∷ decimal x ∷ codes "' y='" ∷ decimal y ∷ codes "'>" ∷ name ∷
-    word ∷ codes "</text>\n" ∷ [])
+-- Words as SVG, at this position.
+unfoldable pub mark_svg : ℕ → ℕ → List ℕ → List ℕ
+mark_svg x y words =
+    concat (codes "<text x='" ∷ decimal x ∷ codes "' y='" ∷ decimal y ∷ codes "'>" ∷ words ∷
+    codes "</text>\n" ∷ [])
 
--- The kind in a bar's label; nothing if the bar has no room for the site and the kind.
-abbrev pub kind_label_by : List ℕ → ℕ → ℕ → List ℕ
-kind_label_by kind letters width =
-    if nat_le (width / 7 - (length kind + 1)) letters then [] else codes " " ++ kind
-
--- The kind in a bar's label, if the site has a shape and the bar has room for the kind.
+-- The kind in a bar's label, behind so many letters; nothing for the base, nor if the bar has no room for the kind.
 abbrev pub kind_label : Option Shape → ℕ → ℕ → List ℕ
 kind_label None letters width = []
-kind_label (Some shape) letters width = kind_label_by (kind_text shape.kind) letters width
+kind_label (Some shape) letters width =
+    if nat_le (width / 7 - (length (kind_text shape.kind) + 1)) letters then []
+    else codes " " ++ kind_text shape.kind
 
 -- The label of a bar as SVG; nothing if the bar is too narrow for the site's name.
 abbrev pub label_text : ℕ → ℕ → ℕ → List ℕ → Option Shape → List ℕ
 label_text x y width name shape =
     if nat_le (width / 7) (length name) then []
-    else words_text (x + width / 2) (y + 11) name (kind_label shape (length name) width)
+    else mark_svg (x + width / 2) (y + 11) (name ++ kind_label shape (length name) width)
 
--- A bar at this position: its rectangle and its label.
-abbrev pub placed_bar : ℕ → ℕ → ℕ → List ℕ → Stay → Option Shape → ℕ → List ℕ
-placed_bar x y width title stay shape level =
-    rect_text x y width (fill_text shape stay.hart level) title
-    ++ label_text x y width (site_name stay.site) shape
+-- The bar of a stay at this position: its rectangle and its label.
+abbrev pub placed_bar : View → ℕ → ℕ → ℕ → Stay → List ℕ
+placed_bar v x y width stay =
+    rect_text x y width
+    (fill_text (shape_of v.shapes stay.site) stay.hart (level_of v stay.site))
+    (stay_title v.shapes stay)
+    ++ label_text x y width (site_name stay.site) (shape_of v.shapes stay.site)
 
--- ---- the parts of a stay, in a list whose last place is this
+-- ---- the parts of a stay
 
 -- The first place of a stay in this row.
-abbrev pub first_in : ℕ → Stay → ℕ → ℕ
-first_in end stay row = max stay.first (per_row end * row)
+abbrev pub first_in : View → Stay → ℕ → ℕ
+first_in v stay row = max stay.first (per_row v * row)
 
 -- The last place of a stay in this row.
-abbrev pub last_in : ℕ → Stay → ℕ → ℕ
-last_in end stay row = min (last_or end stay.last) (per_row end * row + (per_row end - 1))
-
--- The bar of a stay in a row that is shown.
-abbrev pub shown_part : Plan → List Shape → ℕ → Stay → ℕ → List ℕ
-shown_part p shapes end stay row =
-    placed_bar (place_x end (first_in end stay row))
-    (bar_y (row_y p end row) stay.hart (level_of p stay.site))
-    (step_of end * (last_in end stay row + 1 - first_in end stay row)) (stay_title shapes stay) stay
-    (shape_of shapes stay.site) (level_of p stay.site)
+abbrev pub last_in : View → Stay → ℕ → ℕ
+last_in v stay row = min (last_or (length v.list) stay.last) (per_row v * row + (per_row v - 1))
 
 -- The bar of a stay in this row; nothing if the row isn't shown.
-abbrev pub part_text : Plan → List Shape → ℕ → Stay → ℕ → List ℕ
-part_text p shapes end stay row =
-    if is_shown end row then shown_part p shapes end stay row else []
+abbrev pub part_text : View → Stay → ℕ → List ℕ
+part_text v stay row =
+    if is_shown v row
+    then placed_bar v (place_x v (first_in v stay row))
+    (bar_y (row_y v row) stay.hart (level_of v stay.site))
+    (step_of v * (last_in v stay row + 1 - first_in v stay row)) stay
+    else []
 
 -- The bars of a stay in n rows, from this row on.
-abbrev pub parts_text : Plan → List Shape → ℕ → Stay → ℕ → ℕ → List ℕ
-parts_text p shapes end stay row zero = []
-parts_text p shapes end stay row (suc n) =
-    part_text p shapes end stay row ++ parts_text p shapes end stay (row + 1) n
+abbrev pub parts_text : View → Stay → ℕ → ℕ → List ℕ
+parts_text v stay row zero = []
+parts_text v stay row (suc n) = part_text v stay row ++ parts_text v stay (row + 1) n
 
 -- The number of rows in which a stay has places.
-abbrev pub row_count : ℕ → Stay → ℕ
-row_count end stay = row_of end (last_or end stay.last) + 1 - row_of end stay.first
+abbrev pub row_count : View → Stay → ℕ
+row_count v stay = row_of v (last_or (length v.list) stay.last) + 1 - row_of v stay.first
 
 -- The bars of one stay, one in each of its rows that is shown.
-abbrev pub bar_text : Plan → List Shape → ℕ → Stay → List ℕ
-bar_text p shapes end stay =
-    parts_text p shapes end stay (row_of end stay.first) (row_count end stay)
+abbrev pub bar_text : View → Stay → List ℕ
+bar_text v stay = parts_text v stay (row_of v stay.first) (row_count v stay)
 
 -- The bars of all these stays.
-abbrev pub bars_text : Plan → List Shape → ℕ → List Stay → List ℕ
-bars_text p shapes end stays = flat_map (λ stay. bar_text p shapes end stay) stays
+abbrev pub bars_text : View → List Stay → List ℕ
+bars_text v stays = flat_map (λ stay. bar_text v stay) stays
 
 -- The bars of n harts, from hart h on.
-abbrev pub lanes_svg : Plan → List Shape → List Entry → ℕ → ℕ → List ℕ
-lanes_svg p shapes es h zero = []
-lanes_svg p shapes es h (suc n) =
-    bars_text p shapes (length es) (stays_of p h es) ++ lanes_svg p shapes es (h + 1) n
+abbrev pub lanes_svg : View → ℕ → ℕ → List ℕ
+lanes_svg v h zero = []
+lanes_svg v h (suc n) = bars_text v (stays_of v.plan h v.list) ++ lanes_svg v (h + 1) n

@@ -1,10 +1,10 @@
 -- The picture in text: in each band 14 entries and a line for each hart, with the site where it is at each place; then the tree
 -- of the sites.
-use Rattle.std.specs.Prelude.{ℕ, zero, suc, ◌+◌, ◌-◌, ◌*◌, ◌/◌, ◌==◌, nat_le, Bool, true, false, if◌then◌else◌, List, [], ◌∷◌, ◌++◌, codes, length, take, drop, replicate, Option, Some, None}
+use Rattle.std.specs.Prelude.{ℕ, zero, suc, ◌+◌, ◌-◌, ◌*◌, ◌/◌, ◌==◌, nat_le, Bool, if◌then◌else◌, ◌&&◌, List, [], ◌∷◌, ◌++◌, codes, length, take, drop, replicate, Option, Some, None}
 use Rattle.std.specs.List.{concat, flat_map}
 use Rattle.std.specs.Fmt.{decimal}
 use Rattle.transfer_table.specs.Plan.{Plan, parent}
-use Rattle.transfer_table.specs.Table.{TableState, row}
+use Rattle.transfer_table.specs.Table.{row}
 use Rattle.transfer_table.specs.Entry.{site_of}
 use Rattle.transfer_table.specs.Journal.{first_fault_of}
 use Rattle.transfer_table.specs.declared.entry.Row.{Row}
@@ -19,11 +19,13 @@ use Rattle.journal_picture.specs.Kinds.{kind_text}
 use Rattle.journal_picture.specs.Stays.{stays_of}
 use Rattle.journal_picture.specs.declared.visits.Visits.{Visits}
 use Rattle.journal_picture.specs.declared.travels.Travels.{Travels}
+use Rattle.journal_picture.specs.declared.text.Line.{Line}
+use Rattle.journal_picture.specs.declared.text.Line.TheVariants.{Deeds, Doers, Sites}
 use Rattle.journal_picture.specs.Strip.{strip_of}
-use Rattle.journal_picture.specs.Visits.{visits_at, visits_of}
-use Rattle.journal_picture.specs.Travels.{travels_of}
-use Rattle.journal_picture.specs.Drawn.{drawn, has_fault, state_after}
+use Rattle.journal_picture.specs.Visits.{visits_at}
+use Rattle.journal_picture.specs.Drawn.{drawn, has_fault}
 use Rattle.journal_picture.specs.Faults.{fault_line_of}
+use Rattle.journal_picture.specs.Views.{View, view}
 
 -- ---- where a hart is at each place
 
@@ -73,10 +75,6 @@ abbrev pub numbers_text : ℕ → List Entry → List ℕ
 numbers_text k [] = []
 numbers_text k (e ∷ es) = cell (decimal k) ++ numbers_text (k + 1) es
 
--- The words of the entries, each in a cell.
-abbrev pub deeds_text : List Entry → List ℕ
-deeds_text es = flat_map (λ e. cell (deed e)) es
-
 -- A hart and how many harts it requests.
 abbrev pub requesting : ℕ → ℕ → List ℕ
 requesting h k = concat (codes "h" ∷ decimal h ∷ codes "+" ∷ decimal k ∷ [])
@@ -90,13 +88,16 @@ doer (Yield h s) = codes "h" ++ decimal h
 doer (Unregister h s) = codes "h" ++ decimal h
 doer (Skip h s) = codes "h" ++ decimal h
 
--- The harts of the entries, each in a cell.
-abbrev pub doers_text : List Entry → List ℕ
-doers_text es = flat_map (λ e. cell (doer e)) es
+-- The word of an entry in a line: what the entry does, whose it is, or of which site.
+abbrev pub word_of : Line → Entry → List ℕ
+word_of Deeds e = deed e
+word_of Doers e = doer e
+word_of Sites e = site_name (site_of e)
 
--- The sites of the entries, each in a cell.
-abbrev pub at_sites_text : List Entry → List ℕ
-at_sites_text es = flat_map (λ e. cell (site_name (site_of e))) es
+-- The line of the entries' words, each in a cell.
+abbrev pub entries_line : Line → List Entry → List ℕ
+entries_line line es =
+    codes "         " ++ flat_map (λ e. cell (word_of line e)) es ++ codes "\n"
 
 -- The names of these sites, each in a cell.
 abbrev pub sites_text : List ℕ → List ℕ
@@ -116,54 +117,32 @@ lanes_text at h [] = []
 lanes_text at h (lane ∷ more) =
     hart_name h ++ sites_text (take 15 (drop at lane)) ++ codes "\n" ++ lanes_text at (h + 1) more
 
--- The mark of a fault, behind the last entry.
-abbrev pub mark_text : Bool → Bool → List ℕ
-mark_text true true = cell (codes "fault")
-mark_text true false = []
-mark_text false last = []
+-- The mark of a fault.
+abbrev pub mark_text : Bool → List ℕ
+mark_text marked = if marked then cell (codes "fault") else []
 
--- The line of the entries' numbers, with the mark of a fault.
-abbrev pub numbers_line : Bool → Bool → ℕ → List Entry → List ℕ
-numbers_line faulty last at shown =
-    codes "    entry" ++ numbers_text at shown ++ mark_text faulty last ++ codes "\n"
-
--- The line of the entries' words.
-abbrev pub deeds_line : List Entry → List ℕ
-deeds_line shown = codes "         " ++ deeds_text shown ++ codes "\n"
-
--- The line of the entries' harts.
-abbrev pub doers_line : List Entry → List ℕ
-doers_line shown = codes "         " ++ doers_text shown ++ codes "\n"
-
--- The line of the entries' sites.
-abbrev pub at_sites_line : List Entry → List ℕ
-at_sites_line shown = codes "         " ++ at_sites_text shown ++ codes "\n"
+-- The line of the entries' numbers, with the mark of a fault or without.
+abbrev pub numbers_line : Bool → ℕ → List Entry → List ℕ
+numbers_line marked at shown =
+    codes "    entry" ++ numbers_text at shown ++ mark_text marked ++ codes "\n"
 
 -- The three lines of the entries: their words, their harts and their sites.
 abbrev pub deed_lines : List Entry → List ℕ
-deed_lines shown = deeds_line shown ++ doers_line shown ++ at_sites_line shown
+deed_lines shown = entries_line Deeds shown ++ entries_line Doers shown ++ entries_line Sites shown
 
 -- ---- the strip: how many wishes are unmet at each place, and how many harts idle, with a mark where a lender missed a wish
-
--- The numbers of unmet wishes at these places, each in a cell.
-abbrev pub unmets_text : List Figures → List ℕ
-unmets_text fs = flat_map (λ (f : Figures). cell (decimal f.unmet)) fs
 
 -- The number of idle harts at a place, behind a `!` if a lender missed a wish.
 abbrev pub idle_words : Figures → List ℕ
 idle_words f = if f.missed then codes "!" ++ decimal f.idle else decimal f.idle
 
--- The numbers of idle harts at these places, each in a cell.
-abbrev pub idles_text : List Figures → List ℕ
-idles_text fs = flat_map (λ (f : Figures). cell (idle_words f)) fs
-
 -- The line of unmet wishes.
 abbrev pub unmet_line : List Figures → List ℕ
-unmet_line shown = codes "unm" ++ unmets_text shown ++ codes "\n"
+unmet_line fs = codes "unm" ++ flat_map (λ (f : Figures). cell (decimal f.unmet)) fs ++ codes "\n"
 
 -- The line of idle harts, which an empty line follows.
 abbrev pub idle_line : List Figures → List ℕ
-idle_line shown = codes "idl" ++ idles_text shown ++ codes "\n\n"
+idle_line fs = codes "idl" ++ flat_map (λ (f : Figures). cell (idle_words f)) fs ++ codes "\n\n"
 
 -- The two lines of the strip.
 abbrev pub strip_lines : List Figures → List ℕ
@@ -172,7 +151,7 @@ strip_lines shown = unmet_line shown ++ idle_line shown
 -- The band of the entry at a place and the 13 that follow.
 abbrev pub band_text : Bool → List Entry → List (List ℕ) → List Figures → ℕ → List ℕ
 band_text faulty es lanes strip at =
-    numbers_line faulty (nat_le (length es) (at + 14)) at (take 14 (drop at es))
+    numbers_line (faulty && nat_le (length es) (at + 14)) at (take 14 (drop at es))
     ++ deed_lines (take 14 (drop at es)) ++ lanes_text at 0 lanes
     ++ strip_lines (take 15 (drop at strip))
 
@@ -209,40 +188,36 @@ fate_text Live home = home_text home ++ codes ", not ended"
 fate_text Gone home = home_text home
 
 -- The site's name, its kind and its source line, indented by the site's depth.
-abbrev pub site_start : ℕ → ℕ → Shape → List ℕ
-site_start depth s shape =
-    blanks (2 * depth) ++ (codes "s" ++ decimal s ++ codes " " ++ kind_text shape.kind
+abbrev pub site_start : View → ℕ → Shape → List ℕ
+site_start v s shape =
+    blanks (2 * depth_of v.plan s) ++ (codes "s" ++ decimal s ++ codes " " ++ kind_text shape.kind
     ++ codes ", line " ++ decimal shape.line)
 
 -- The numbers at the left of a line of the tree: the harts that the site requested, the wishes that a hart met and those that none met.
-abbrev pub wish_cells : ℕ → ℕ → List ℕ
-wish_cells asked wishes =
-    cell (decimal asked) ++ cell (decimal (asked - wishes)) ++ cell (decimal wishes)
+abbrev pub wish_cells : Row → List ℕ
+wish_cells found =
+    cell (decimal found.asked) ++ cell (decimal (found.asked - found.wishes))
+    ++ cell (decimal found.wishes)
 
 -- The most guests at once, and the entries that harts made inside.
 abbrev pub visit_cells : Visits → List ℕ
 visit_cells v = cell (decimal v.guests) ++ cell (decimal v.entries) ++ codes "  "
 
--- The start of a site's line in the tree: its numbers, its name, its kind and its source line.
-abbrev pub line_start : ℕ → ℕ → Shape → Row → Visits → List ℕ
-line_start depth s shape found v =
-    wish_cells found.asked found.wishes ++ visit_cells v ++ site_start depth s shape
-
--- A line of the tree: the site's numbers, the site, and what became of it.
-abbrev pub site_line : ℕ → ℕ → Shape → Row → Visits → List ℕ
-site_line depth s shape found v =
-    line_start depth s shape found v ++ fate_text found.stage found.home ++ codes "\n"
+-- A line of the tree: the site's numbers, its name, its kind and its source line, and what became of it.
+abbrev pub site_line : View → ℕ → Shape → List ℕ
+site_line v s shape =
+    wish_cells (row v.state s) ++ visit_cells (visits_at v.visits s) ++ site_start v s shape
+    ++ fate_text (row v.state s).stage (row v.state s).home
+    ++ codes "\n"
 
 -- The lines of sites with these shapes, from a site on.
-abbrev pub site_lines : Plan → TableState → List Visits → ℕ → List Shape → List ℕ
-site_lines p t vs s [] = []
-site_lines p t vs s (shape ∷ more) =
-    site_line (depth_of p s) s shape (row t s) (visits_at vs s) ++ site_lines p t vs (s + 1) more
+abbrev pub site_lines : View → ℕ → List Shape → List ℕ
+site_lines v s [] = []
+site_lines v s (shape ∷ more) = site_line v s shape ++ site_lines v (s + 1) more
 
 -- The tree of the sites: the names of the numbers, the base, and a line for each site.
-abbrev pub tree_text : Plan → TableState → List Visits → List Shape → List ℕ
-tree_text p t vs shapes =
-    codes "   req   met unmet guest  made  base\n" ++ site_lines p t vs 1 shapes
+abbrev pub tree_text : View → List ℕ
+tree_text v = codes "   req   met unmet guest  made  base\n" ++ site_lines v 1 v.shapes
 
 -- ---- the table of harts
 
@@ -251,13 +226,9 @@ abbrev pub travel_cells : Travels → List ℕ
 travel_cells v =
     cell (decimal v.entries) ++ cell (decimal v.stays) ++ cell (decimal v.sites)
 
--- The end of a hart's line: the hart's name.
-abbrev pub hart_end : ℕ → List ℕ
-hart_end h = concat (codes "  h" ∷ decimal h ∷ codes "\n" ∷ [])
-
--- The line of a hart in the table of harts.
+-- The line of a hart in the table of harts: its numbers and its name.
 abbrev pub hart_line : ℕ → Travels → List ℕ
-hart_line h v = travel_cells v ++ hart_end h
+hart_line h v = travel_cells v ++ concat (codes "  h" ∷ decimal h ∷ codes "\n" ∷ [])
 
 -- The lines of harts with these numbers, the first of which is this one.
 abbrev pub hart_lines : ℕ → List Travels → List ℕ
@@ -276,24 +247,22 @@ legend_text =
 -- ---- the whole, with the verdict's line
 
 -- The picture up to the last lines: the bands, the tree of the sites, the table of harts, and the legend.
-abbrev pub shown_text : Plan → TableState → List Shape → List Entry → List (List ℕ) → List Figures
-    → List Visits → List Travels → Bool → List ℕ
-shown_text p t shapes es lanes strip vs ts faulty =
-    bands_text faulty es lanes strip 0 (band_count (length es)) ++ tree_text p t vs shapes
-    ++ harts_text ts ++ legend_text
-
--- The picture of these entries, with these lines at its end.
-abbrev pub text_of : Plan → List Shape → List Entry → Bool → List ℕ → List ℕ
-text_of p shapes es faulty ending =
-    shown_text p (state_after p es) shapes es (lanes_of p es 0 p.harts) (strip_of p es)
-    (visits_of p es) (travels_of p es) faulty
-    ++ ending
+abbrev pub shown_text : View → Bool → List ℕ
+shown_text v faulty =
+    bands_text faulty v.list (lanes_of v.plan v.list 0 v.plan.harts) (strip_of v.plan v.list) 0
+    (band_count (length v.list))
+    ++ tree_text v ++ harts_text v.travels ++ legend_text
 
 -- The lines at the end of a picture: the line of the fault, if there is a fault, and the verdict.
 abbrev pub ending_of : Plan → List Bool → List Entry → List ℕ → List ℕ
 ending_of p meant es verdict = fault_line_of p es (first_fault_of p meant es) ++ verdict
 
--- The text picture of a list: the picture of its entries before the first fault.
+-- What a picture shows, and these lines at its end.
+abbrev pub text_of : View → Bool → List ℕ → List ℕ
+text_of v faulty ending = shown_text v faulty ++ ending
+
+-- The text picture of a list: what its entries before the first fault show, and the last lines.
 abbrev pub text_picture : Plan → List Bool → List Shape → List Entry → List ℕ → List ℕ
 text_picture p meant shapes es verdict =
-    text_of p shapes (drawn p meant es) (has_fault p meant es) (ending_of p meant es verdict)
+    text_of (view p shapes (drawn p meant es)) (has_fault p meant es)
+    (ending_of p meant es verdict)

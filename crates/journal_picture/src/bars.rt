@@ -1,234 +1,134 @@
 //! The bars of the picture.
-ghost use Rattle.std.specs.Prelude.{◌≡◌, ◌≤◌, ◌<◌, ◌++◌, ◌+◌, IfOk, OnOk, length, string_bytes, true, false, Some, None};
-ghost use Rattle.transfer_table.specs.Plan.{most_entries};
-ghost use Rattle.journal_picture.specs.TextPicture.{last_or, site_name};
-ghost use Rattle.journal_picture.specs.Scale.{level_of, per_row, row_of};
-ghost use Rattle.journal_picture.specs.SvgBars.{about_by, about_text, bar_text, bars_text, base_fill, fill_text, first_in, kind_label, kind_label_by, label_text, lanes_svg, last_in, part_text, parts_text, placed_bar, rect_text, row_count, shape_of, shown_part, since_text, site_fill, stay_title, title_by, until_text, words_text};
+ghost use Rattle.std.specs.Prelude.{◌≡◌, ◌≤◌, ◌+◌, IfOk, OnOk, length, string_bytes};
+ghost use Rattle.std.specs.Fmt.{decimal};
+ghost use Rattle.journal_picture.specs.Texts.{Adds};
+ghost use Rattle.journal_picture.specs.Views.{view_of};
+ghost use Rattle.journal_picture.specs.Scale.{row_of};
+ghost use Rattle.journal_picture.specs.SvgBars.{about_text, bar_text, bars_text, base_fill, fill_text, first_in, kind_label, label_text, lanes_svg, last_in, mark_svg, part_text, placed_bar, rect_text, row_count, shape_of, since_text, site_fill, stay_title, until_text};
+ghost use Rattle.journal_picture.specs.TextPicture.{site_name};
 
-use crate::scale::{bar_y, is_shown, level_of, per_row, place_x, row_of, row_y, step_of, times};
+use crate::drawing::Drawing;
+use crate::lanes::last_or;
+use crate::scale::{bar_y, times};
 use crate::shape::{Shape, kind_name};
 use crate::stay::{Stay, stays_of};
-use crate::words::site_name;
+use crate::words::{Written, site_name};
 use std::alloc::{AllocError, Global};
-use transfer_table::{Entry, Plan};
+
+// The position of a bar and its width. Why the bounds: no sum of them overflows.
+#[derive(Clone, Copy)]
+struct Bar {
+    x: usize,
+    y: usize,
+    width: usize,
+    ghost left: { x ≤ 4000000000000 },
+    ghost upper: { y ≤ 6000000000000 },
+    ghost wide: { width ≤ 4000000000000 },
+}
 
 /// Adds the bars of all harts.
-pub(crate) fn write_lanes(
-    alloc: Global,
-    text: &mut String,
-    plan: &Plan,
-    shapes: &[Shape],
-    list: &[Entry],
-) -> Result<(), AllocError>
-    requires { length list.now ≤ most_entries }
-    ensures { OnOk result (string_bytes text.new ≡ string_bytes text.old
-        ++ lanes_svg plan.now shapes.now list.now 0 plan.now.harts) }
+pub(crate) fn write_lanes(text: &mut String, drawing: &Drawing) -> Written
+    ensures { OnOk result (Adds text.old
+        (lanes_svg (view_of drawing.now) 0 drawing.now.board.plan.harts) text.new) }
 {
-    for hart in 0..plan.harts() {
-        let stays = stays_of(alloc, plan, hart, list)?;
-        write_bars(alloc, text, plan, shapes, list.len(), &stays)?;
+    for hart in 0..drawing.plan().harts() {
+        let stays = stays_of(drawing.alloc, drawing.plan(), hart, drawing.list)?;
+        write_bars(text, drawing, &stays)?;
     }
     Ok(())
 }
 
 // Adds the bars of these stays.
-fn write_bars(
-    alloc: Global,
-    text: &mut String,
-    plan: &Plan,
-    shapes: &[Shape],
-    end: usize,
-    stays: &[Stay],
-) -> Result<(), AllocError>
-    requires { end ≤ most_entries }
-    ensures { OnOk result (string_bytes text.new ≡ string_bytes text.old
-        ++ bars_text plan.now shapes.now end stays.now) }
+fn write_bars(text: &mut String, drawing: &Drawing, stays: &[Stay]) -> Written
+    ensures { OnOk result (Adds text.old (bars_text (view_of drawing.now) stays.now) text.new) }
 {
     for stay in stays {
-        write_bar(alloc, text, plan, shapes, end, *stay)?;
+        write_bar(text, drawing, *stay)?;
     }
     Ok(())
 }
 
-// Adds the bars of a stay.
-fn write_bar(
-    alloc: Global,
-    text: &mut String,
-    plan: &Plan,
-    shapes: &[Shape],
-    end: usize,
-    stay: Stay,
-) -> Result<(), AllocError>
-    requires { end ≤ most_entries }
-    ensures { OnOk result (string_bytes text.new ≡ string_bytes text.old
-        ++ bar_text plan.now shapes.now end stay) }
+// Adds the bars of a stay, one in each of its rows that is shown.
+fn write_bar(text: &mut String, drawing: &Drawing, stay: Stay) -> Written
+    ensures { OnOk result (Adds text.old (bar_text (view_of drawing.now) stay) text.new) }
 {
-    let first = row_of(end, stay.first as usize);
-    write_parts(
-        alloc,
-        text,
-        plan,
-        shapes,
-        end,
-        stay,
-        first,
-        row_count(end, stay),
-    )
+    let first = drawing.row_of(stay.first as usize);
+    let count = row_count(drawing, stay);
+    for i in 0..count {
+        write_part(text, drawing, stay, first + i)?;
+    }
+    Ok(())
 }
 
 // In how many rows the stay has places.
-fn row_count(end: usize, stay: Stay) -> usize
-    requires { end ≤ most_entries }
-    ensures same { result ≡ row_count end stay }
-    ensures few { result ≤ 4294967296 }
+fn row_count(drawing: &Drawing, stay: Stay) -> usize
+    ensures same { result ≡ row_count (view_of drawing.now) stay }
+    ensures few { row_of (view_of drawing.now) stay.first + result ≤ 4294967296 }
 {
-    let last = last_or(end, stay.last);
-    (row_of(end, last) + 1).saturating_sub(row_of(end, stay.first as usize))
-}
-
-// The last place of a stay.
-fn last_or(end: usize, last: Option<u32>) -> usize
-    requires { end ≤ most_entries }
-    ensures same { result ≡ last_or end last }
-    ensures few { result ≤ 4294967295 }
-{
-    match last {
-        None => end,
-        Some(last) => last as usize,
-    }
-}
-
-// Adds the parts of a stay in so many rows, from this one on.
-fn write_parts(
-    alloc: Global,
-    text: &mut String,
-    plan: &Plan,
-    shapes: &[Shape],
-    end: usize,
-    stay: Stay,
-    row: usize,
-    count: usize,
-) -> Result<(), AllocError>
-    requires few { end ≤ most_entries }
-    requires low { row ≤ 4294967295 }
-    requires rows { row + count ≤ 4294967296 }
-    ensures { OnOk result (string_bytes text.new ≡ string_bytes text.old
-        ++ parts_text plan.now shapes.now end stay row count) }
-{
-    for i in 0..count {
-        write_part(alloc, text, plan, shapes, end, stay, row + i)?;
-    }
-    Ok(())
+    let last = last_or(drawing.list.len(), stay.last);
+    (drawing.row_of(last) + 1).saturating_sub(drawing.row_of(stay.first as usize))
 }
 
 // Adds the part of a stay in a row, if the row is shown.
-fn write_part(
-    alloc: Global,
-    text: &mut String,
-    plan: &Plan,
-    shapes: &[Shape],
-    end: usize,
-    stay: Stay,
-    row: usize,
-) -> Result<(), AllocError>
-    requires few { end ≤ most_entries }
-    requires low { row ≤ 4294967296 }
-    ensures { OnOk result (string_bytes text.new ≡ string_bytes text.old
-        ++ part_text plan.now shapes.now end stay row) }
+fn write_part(text: &mut String, drawing: &Drawing, stay: Stay, row: usize) -> Written
+    requires { row ≤ 4294967296 }
+    ensures { OnOk result (Adds text.old (part_text (view_of drawing.now) stay row) text.new) }
 {
-    if is_shown(end, row) {
-        write_shown(alloc, text, plan, shapes, end, stay, row)
-    } else {
-        Ok(())
+    if !drawing.is_shown(row) {
+        return Ok(());
     }
-}
-
-// Adds the part of a stay in a row.
-fn write_shown(
-    alloc: Global,
-    text: &mut String,
-    plan: &Plan,
-    shapes: &[Shape],
-    end: usize,
-    stay: Stay,
-    row: usize,
-) -> Result<(), AllocError>
-    requires few { end ≤ most_entries }
-    requires low { row ≤ 4294967296 }
-    ensures { OnOk result (string_bytes text.new ≡ string_bytes text.old
-        ++ shown_part plan.now shapes.now end stay row) }
-{
-    let level = level_of(plan, stay.site);
-    let first = first_in(end, stay, row);
-    let places = (last_in(end, stay, row) + 1).saturating_sub(first);
-    let x = place_x(end, first);
-    let y = bar_y(row_y(plan, end, row), stay.hart, level);
-    let width = times(step_of(end), places);
-    let title = stay_title(alloc, shapes, stay)?;
-    write_placed(
-        alloc,
-        text,
-        x,
-        y,
-        width,
-        title.as_str(),
-        stay,
-        shape_of(shapes, stay.site),
-        level,
-    )
+    let first = first_in(drawing, stay, row);
+    let places = (last_in(drawing, stay, row) + 1).saturating_sub(first);
+    let bar = Bar {
+        x: drawing.place_x(first),
+        y: bar_y(drawing.row_y(row), stay.hart, drawing.level_of(stay.site)),
+        width: times(drawing.step(), places),
+    };
+    write_placed(text, drawing, bar, stay)
 }
 
 // The first place of a stay in a row.
-fn first_in(end: usize, stay: Stay, row: usize) -> usize
-    requires few { end ≤ most_entries }
-    requires low { row ≤ 4294967296 }
-    ensures same { result ≡ first_in end stay row }
+fn first_in(drawing: &Drawing, stay: Stay, row: usize) -> usize
+    requires { row ≤ 4294967296 }
+    ensures same { result ≡ first_in (view_of drawing.now) stay row }
     ensures bound { result ≤ 3500000000000 }
 {
-    (stay.first as usize).max(times(per_row(end), row))
+    (stay.first as usize).max(times(drawing.per_row(), row))
 }
 
 // The last place of a stay in a row.
-fn last_in(end: usize, stay: Stay, row: usize) -> usize
-    requires few { end ≤ most_entries }
-    requires low { row ≤ 4294967296 }
-    ensures same { result ≡ last_in end stay row }
+fn last_in(drawing: &Drawing, stay: Stay, row: usize) -> usize
+    requires { row ≤ 4294967296 }
+    ensures same { result ≡ last_in (view_of drawing.now) stay row }
     ensures bound { result ≤ 4294967295 }
 {
-    last_or(end, stay.last).min(times(per_row(end), row) + (per_row(end) - 1))
+    let end = times(drawing.per_row(), row) + (drawing.per_row() - 1);
+    last_or(drawing.list.len(), stay.last).min(end)
+}
+
+// Adds the bar of a stay at its place.
+fn write_placed(text: &mut String, drawing: &Drawing, bar: Bar, stay: Stay) -> Written
+    ensures { OnOk result (Adds text.old
+        (placed_bar (view_of drawing.now) bar.x bar.y bar.width stay) text.new) }
+{
+    let shape = shape_of(drawing.shapes, stay.site);
+    let fill = fill(shape, stay.hart, drawing.level_of(stay.site));
+    let title = stay_title(drawing, stay)?;
+    write_rect(text, bar.x, bar.y, bar.width, fill, title.as_str())?;
+    write_label(text, drawing.alloc, bar, stay.site, shape)
 }
 
 // The title of a bar.
-fn stay_title(alloc: Global, shapes: &[Shape], stay: Stay) -> Result<String, AllocError>
-    ensures { IfOk result (λ title. string_bytes title ≡ stay_title shapes.now stay) }
+fn stay_title(drawing: &Drawing, stay: Stay) -> Result<String, AllocError>
+    ensures { IfOk result (λ title. string_bytes title ≡ stay_title drawing.now.shapes.now stay) }
 {
+    let (alloc, hart) = (drawing.alloc, stay.hart);
     let name = site_name(alloc, stay.site)?;
-    let about = about_text(alloc, shape_of(shapes, stay.site), stay.hart)?;
+    let about = about_text(alloc, shape_of(drawing.shapes, stay.site), hart)?;
     let since = since_text(alloc, stay.first)?;
     let until = until_text(alloc, stay.last)?;
-    title_by(
-        alloc,
-        stay.hart,
-        name.as_str(),
-        about.as_str(),
-        since.as_str(),
-        until.as_str(),
-    )
-}
-
-// A title of these parts.
-#[tactic(auto, unfolding(crate::specs::SvgBars::title_by))]
-fn title_by(
-    alloc: Global,
-    hart: u8,
-    name: &str,
-    about: &str,
-    since: &str,
-    until: &str,
-) -> Result<String, AllocError>
-    ensures { IfOk result (λ title. string_bytes title
-        ≡ title_by hart name.now about.now since.now until.now) }
-{
+    let (name, about) = (name.as_str(), about.as_str());
+    let (since, until) = (since.as_str(), until.as_str());
     format!(in alloc; "h{hart} in {name}{about}{since}{until}")
 }
 
@@ -241,35 +141,14 @@ pub(crate) fn about_text(
     ensures { IfOk result (λ about. string_bytes about ≡ about_text shape hart) }
 {
     match shape {
-        None => String::from_str(alloc, about_base(hart)),
-        Some(shape) => about_shape(alloc, shape),
+        None if hart == 0 => String::from_str(alloc, ", the program's body"),
+        None => String::from_str(alloc, ", idle"),
+        Some(shape) => {
+            let name = kind_name(alloc, shape.kind)?;
+            let (kind, line) = (name.as_str(), shape.line);
+            format!(in alloc; ", {kind}, line {line}")
+        }
     }
-}
-
-// What a hart does in the base.
-fn about_base(hart: u8) -> &'static str
-    ensures { result.now ≡ about_text None hart }
-{
-    if hart == 0 {
-        ", the program's body"
-    } else {
-        ", idle"
-    }
-}
-
-// The kind of a site and its line.
-fn about_shape(alloc: Global, shape: Shape) -> Result<String, AllocError>
-    ensures { IfOk result (λ about. string_bytes about ≡ about_text (Some shape) 0) }
-{
-    let kind = kind_name(alloc, shape.kind)?;
-    about_by(alloc, kind.as_str(), shape.line)
-}
-
-// A kind and a line.
-fn about_by(alloc: Global, kind: &str, line: u32) -> Result<String, AllocError>
-    ensures { IfOk result (λ about. string_bytes about ≡ about_by kind.now line) }
-{
-    format!(in alloc; ", {kind}, line {line}")
 }
 
 // Which entry brings the hart.
@@ -293,28 +172,6 @@ fn until_text(alloc: Global, last: Option<u32>) -> Result<String, AllocError>
     }
 }
 
-// Adds the bar at its place.
-fn write_placed(
-    alloc: Global,
-    text: &mut String,
-    x: usize,
-    y: usize,
-    width: usize,
-    title: &str,
-    stay: Stay,
-    shape: Option<Shape>,
-    level: usize,
-) -> Result<(), AllocError>
-    requires left { x ≤ 4000000000000 }
-    requires upper { y ≤ 6000000000000 }
-    requires wide { width ≤ 4000000000000 }
-    ensures { OnOk result (string_bytes text.new ≡ string_bytes text.old
-        ++ placed_bar x y width title.now stay shape level) }
-{
-    write_rect(text, x, y, width, fill(shape, stay.hart, level), title)?;
-    write_label(alloc, text, x, y, width, stay.site, shape)
-}
-
 /// Adds a rectangle with a title.
 #[tactic(auto, unfolding(crate::specs::SvgBars::rect_text))]
 pub(crate) fn write_rect(
@@ -324,9 +181,8 @@ pub(crate) fn write_rect(
     width: usize,
     fill: &str,
     title: &str,
-) -> Result<(), AllocError>
-    ensures { OnOk result (string_bytes text.new ≡ string_bytes text.old
-        ++ rect_text x y width fill.now title.now) }
+) -> Written
+    ensures { OnOk result (Adds text.old (rect_text x y width fill.now title.now) text.new) }
 {
     write!(
         text,
@@ -334,97 +190,55 @@ pub(crate) fn write_rect(
     )
 }
 
+/// Adds words at a place.
+#[tactic(auto, unfolding(crate::specs::SvgBars::mark_svg))]
+pub(crate) fn write_at(text: &mut String, x: usize, y: usize, words: &str) -> Written
+    ensures { OnOk result (Adds text.old (mark_svg x y words.now) text.new) }
+{
+    write!(text, "<text x='{x}' y='{y}'>{words}</text>\n")
+}
+
+/// Adds a number at a place.
+#[tactic(auto, unfolding(crate::specs::SvgBars::mark_svg))]
+pub(crate) fn write_number(text: &mut String, x: usize, y: usize, number: usize) -> Written
+    ensures { OnOk result (Adds text.old (mark_svg x y (decimal number)) text.new) }
+{
+    write!(text, "<text x='{x}' y='{y}'>{number}</text>\n")
+}
+
 // Adds the label of a bar, where there is room.
 fn write_label(
-    alloc: Global,
     text: &mut String,
-    x: usize,
-    y: usize,
-    width: usize,
+    alloc: Global,
+    bar: Bar,
     site: u16,
     shape: Option<Shape>,
-) -> Result<(), AllocError>
-    requires left { x ≤ 4000000000000 }
-    requires upper { y ≤ 6000000000000 }
-    requires wide { width ≤ 4000000000000 }
-    ensures { OnOk result (string_bytes text.new ≡ string_bytes text.old
-        ++ label_text x y width (site_name site) shape) }
+) -> Written
+    ensures { OnOk result (Adds text.old
+        (label_text bar.x bar.y bar.width (site_name site) shape) text.new) }
 {
-    let name = site_name(alloc, site)?;
-    write_label_of(alloc, text, x, y, width, name.as_str(), shape)
-}
-
-// Adds a label with this name, where there is room.
-fn write_label_of(
-    alloc: Global,
-    text: &mut String,
-    x: usize,
-    y: usize,
-    width: usize,
-    name: &str,
-    shape: Option<Shape>,
-) -> Result<(), AllocError>
-    requires left { x ≤ 4000000000000 }
-    requires upper { y ≤ 6000000000000 }
-    requires wide { width ≤ 4000000000000 }
-    ensures { OnOk result (string_bytes text.new ≡ string_bytes text.old
-        ++ label_text x y width name.now shape) }
-{
-    let letters = name.len();
-    if width / 7 <= letters {
+    let mut label = site_name(alloc, site)?;
+    if bar.width / 7 <= label.len() {
         return Ok(());
     }
-    let kind = kind_label(alloc, shape, letters, width)?;
-    write_words(text, x + width / 2, y + 11, name, kind.as_str())
+    add_kind(&mut label, alloc, shape, bar.width)?;
+    write_at(text, bar.x + bar.width / 2, bar.y + 11, label.as_str())
 }
 
-// Adds a name and a word at a place.
-fn write_words(
-    text: &mut String,
-    x: usize,
-    y: usize,
-    name: &str,
-    word: &str,
-) -> Result<(), AllocError>
-    ensures { OnOk result (string_bytes text.new ≡ string_bytes text.old
-        ++ words_text x y name.now word.now) }
+// Adds the kind of a bar's site to the bar's label, where there is room for the kind.
+fn add_kind(label: &mut String, alloc: Global, shape: Option<Shape>, width: usize) -> Written
+    ensures { OnOk result (Adds label.old
+        (kind_label shape (length (string_bytes label.old)) width) label.new) }
 {
-    write!(text, "<text x='{x}' y='{y}'>{name}{word}</text>\n")
-}
-
-// The kind of a bar's site, where there is room for it behind so many letters.
-fn kind_label(
-    alloc: Global,
-    shape: Option<Shape>,
-    letters: usize,
-    width: usize,
-) -> Result<String, AllocError>
-    ensures { IfOk result (λ label. string_bytes label ≡ kind_label shape letters width) }
-{
-    match shape {
-        None => Ok(String::new(alloc)),
-        Some(shape) => {
-            let kind = kind_name(alloc, shape.kind)?;
-            kind_label_by(alloc, kind.as_str(), letters, width)
-        }
+    let Some(shape) = shape else {
+        return Ok(());
+    };
+    let kind = kind_name(alloc, shape.kind)?;
+    if (width / 7).saturating_sub(kind.len() + 1) <= label.len() {
+        return Ok(());
     }
-}
-
-// The kind behind a blank, where there is room for both behind so many letters.
-fn kind_label_by(
-    alloc: Global,
-    kind: &str,
-    letters: usize,
-    width: usize,
-) -> Result<String, AllocError>
-    ensures { IfOk result (λ label. string_bytes label
-        ≡ kind_label_by kind.now letters width) }
-{
-    if (width / 7).saturating_sub(kind.len() + 1) <= letters {
-        Ok(String::new(alloc))
-    } else {
-        format!(in alloc; " {kind}")
-    }
+    label.push_str(" ")?;
+    label.push_str(kind.as_str())
 }
 
 /// The shape of a site; the base has none.
@@ -462,35 +276,12 @@ pub(crate) fn base_fill(hart: u8) -> &'static str
 pub(crate) fn site_fill(phased: bool, level: usize) -> &'static str
     ensures { result.now ≡ site_fill phased level }
 {
-    if phased {
-        phased_fill(level)
-    } else {
-        plain_fill(level)
-    }
-}
-
-// The colour by the depth, with a dashed outline.
-fn phased_fill(level: usize) -> &'static str
-    ensures { result.now ≡ site_fill true level }
-{
-    if level == 1 {
-        "#cfe3f8' stroke-dasharray='4 2' stroke='#2c5d8f"
-    } else if level == 2 {
-        "#9fc8f0' stroke-dasharray='4 2' stroke='#2c5d8f"
-    } else {
-        "#6fabe4' stroke-dasharray='4 2' stroke='#2c5d8f"
-    }
-}
-
-// The colour by the depth, with a solid outline.
-fn plain_fill(level: usize) -> &'static str
-    ensures { result.now ≡ site_fill false level }
-{
-    if level == 1 {
-        "#cfe3f8' stroke='#2c5d8f"
-    } else if level == 2 {
-        "#9fc8f0' stroke='#2c5d8f"
-    } else {
-        "#6fabe4' stroke='#2c5d8f"
+    match (level, phased) {
+        (1, false) => "#cfe3f8' stroke='#2c5d8f",
+        (1, true) => "#cfe3f8' stroke-dasharray='4 2' stroke='#2c5d8f",
+        (2, false) => "#9fc8f0' stroke='#2c5d8f",
+        (2, true) => "#9fc8f0' stroke-dasharray='4 2' stroke='#2c5d8f",
+        (_, false) => "#6fabe4' stroke='#2c5d8f",
+        (_, true) => "#6fabe4' stroke-dasharray='4 2' stroke='#2c5d8f",
     }
 }

@@ -1,7 +1,7 @@
 //! Where each hart is at each place.
 ghost use Rattle.std.specs.Prelude.{◌≡◌, ◌++◌, ◌≤◌, IfOk, OnOk, length, replicate};
 ghost use Rattle.transfer_table.specs.Plan.{most_entries};
-ghost use Rattle.journal_picture.specs.TextPicture.{lanes_of, places_of, sites_of};
+ghost use Rattle.journal_picture.specs.TextPicture.{lanes_of, last_or, places_of, sites_of};
 
 use crate::stay::{Stay, stays_of};
 use std::alloc::{AllocError, Global};
@@ -56,17 +56,25 @@ fn lane_of(alloc: Global, stays: &[Stay], end: usize) -> Result<Lane, AllocError
     Ok(Lane { sites })
 }
 
-/// How many places the stay has, in a list whose last place is this.
-pub(crate) fn places_of(stay: Stay, end: usize) -> usize
+// How many places the stay has, in a list whose last place is this.
+fn places_of(stay: Stay, end: usize) -> usize
     requires { end ≤ most_entries }
     ensures same { result ≡ places_of end stay }
     ensures few { result ≤ 4294967296 }
 {
-    let last = match stay.last {
+    (last_or(end, stay.last) + 1).saturating_sub(stay.first as usize)
+}
+
+/// The last place of a stay, in a list whose last place is this.
+pub(crate) fn last_or(end: usize, last: Option<u32>) -> usize
+    requires { end ≤ most_entries }
+    ensures same { result ≡ last_or end last }
+    ensures few { result ≤ 4294967295 }
+{
+    match last {
         None => end,
         Some(last) => last as usize,
-    };
-    (last + 1).saturating_sub(stay.first as usize)
+    }
 }
 
 // Adds a site so many times.

@@ -25,6 +25,7 @@
 
 mod axis;
 mod bars;
+mod drawing;
 mod drawn;
 mod faults;
 mod harts;

@@ -1,97 +1,68 @@
 //! The marks at the lanes, the strip and the fault.
-ghost use Rattle.std.specs.Prelude.{◌≡◌, ◌≤◌, ◌++◌, IfOk, OnOk, length, string_bytes};
-ghost use Rattle.std.specs.Fmt.{decimal};
+ghost use Rattle.std.specs.Prelude.{◌≡◌, ◌≤◌, IfOk, OnOk, string_bytes};
 ghost use Rattle.transfer_table.specs.Plan.{most_entries};
 ghost use Rattle.transfer_table.specs.Table.{first_state};
 ghost use Rattle.journal_picture.specs.Strip.{HasWishesWithin};
-ghost use Rattle.journal_picture.specs.SvgMarks.{entry_mark, fault_line, fault_note, fault_svg, fault_word, fault_x, figures_svg, figures_words, line_svg, look_of, mark_svg, mark_text, mark_y, marks_text, numbers_svg, placed_mark, red_svg, shown_figures, shown_mark, strip_svg, titled_svg, unmet_at, unmet_mark};
+ghost use Rattle.journal_picture.specs.SvgMarks.{entry_mark, fault_marks, fault_note, fault_svg, fault_word, fault_x, figures_svg, figures_words, line_svg, look_of, mark_text, mark_y, marks_text, numbers_svg, red_svg, strip_svg, titled_svg, unmet_at, unmet_mark};
+ghost use Rattle.journal_picture.specs.Texts.{Adds};
+ghost use Rattle.journal_picture.specs.Views.{view_of};
 
-use crate::axis::{strip_y, write_at};
-use crate::bars::write_rect;
+use crate::axis::write_guide;
+use crate::bars::{write_number, write_rect};
+use crate::drawing::Drawing;
 use crate::faults::entry_words;
-use crate::scale::{entry_x, is_shown, lane_y, place_x, row_of, row_y, rows_of, step_of};
+use crate::scale::lane_y;
 use crate::strip::{Figures, Wishing, admit_and_follow, figures_of};
 use crate::text::hart_of;
+use crate::words::Written;
 use std::alloc::{AllocError, Global};
-use transfer_table::{Board, Entry, Plan};
+use transfer_table::{Board, Entry};
 
 /// Adds the marks of requests, of unmet wishes, and of skips.
-pub(crate) fn write_marks(
-    alloc: Global,
-    text: &mut String,
-    board: &Board,
-    end: usize,
-    list: &[Entry],
-) -> Result<(), AllocError>
-    requires few { end ≤ most_entries }
-    requires short { length list.now ≤ most_entries }
-    ensures { OnOk result (string_bytes text.new ≡ string_bytes text.old
-        ++ marks_text board.now.plan board.now.state end 0 list.now) }
+pub(crate) fn write_marks(text: &mut String, drawing: &Drawing) -> Written
+    ensures { OnOk result (Adds text.old
+        (marks_text (view_of drawing.now) 0 drawing.now.list.now) text.new) }
 {
-    for (k, entry) in list.iter().enumerate() {
-        write_entry_mark(alloc, text, board, end, k, *entry)?;
+    for (k, entry) in drawing.list.iter().enumerate() {
+        write_entry_mark(text, drawing, k, *entry)?;
     }
     Ok(())
 }
 
 // Adds the mark of an entry, if it has one.
-fn write_entry_mark(
-    alloc: Global,
-    text: &mut String,
-    board: &Board,
-    end: usize,
-    k: usize,
-    entry: Entry,
-) -> Result<(), AllocError>
-    requires few { end ≤ most_entries }
-    requires low { k ≤ most_entries }
-    ensures { OnOk result (string_bytes text.new ≡ string_bytes text.old
-        ++ entry_mark board.now.plan board.now.state end k entry) }
+fn write_entry_mark(text: &mut String, drawing: &Drawing, k: usize, entry: Entry) -> Written
+    requires { k ≤ most_entries }
+    ensures { OnOk result (Adds text.old (entry_mark (view_of drawing.now) k entry) text.new) }
 {
+    let alloc = drawing.alloc;
     match entry {
         Entry::Request { count, .. } => {
             let words = format!(in alloc; "+{count}")?;
-            write_mark(alloc, text, board.plan(), end, k, entry, words.as_str())
+            write_mark(text, drawing, k, entry, words.as_str())
         }
         Entry::Unregister { site, .. } => {
-            write_unmet(
-                alloc,
-                text,
-                board.plan(),
-                end,
-                k,
-                entry,
-                unmet_at(board, site),
-            )
+            write_unmet(text, drawing, k, entry, unmet_at(&drawing.board, site))
         }
         Entry::Skip { site, .. } => {
             let words = format!(in alloc; "skip s{site}")?;
-            write_mark(alloc, text, board.plan(), end, k, entry, words.as_str())
+            write_mark(text, drawing, k, entry, words.as_str())
         }
         Entry::Register { .. } | Entry::Enter { .. } | Entry::Yield { .. } => Ok(()),
     }
 }
 
 // Adds the mark of unmet wishes, if there are any.
-fn write_unmet(
-    alloc: Global,
-    text: &mut String,
-    plan: &Plan,
-    end: usize,
-    k: usize,
-    entry: Entry,
-    wishes: u8,
-) -> Result<(), AllocError>
-    requires few { end ≤ most_entries }
-    requires low { k ≤ most_entries }
-    ensures { OnOk result (string_bytes text.new ≡ string_bytes text.old
-        ++ unmet_mark plan.now end k entry wishes) }
+fn write_unmet(text: &mut String, drawing: &Drawing, k: usize, entry: Entry, wishes: u8) -> Written
+    requires { k ≤ most_entries }
+    ensures { OnOk result (Adds text.old
+        (unmet_mark (view_of drawing.now) k entry wishes) text.new) }
 {
     if wishes == 0 {
         return Ok(());
     }
+    let alloc = drawing.alloc;
     let words = format!(in alloc; "{wishes} unmet")?;
-    write_mark(alloc, text, plan, end, k, entry, words.as_str())
+    write_mark(text, drawing, k, entry, words.as_str())
 }
 
 // The unmet wishes of a site; 0 if the plan has no such site.
@@ -105,54 +76,24 @@ fn unmet_at(board: &Board, site: u16) -> u8
     }
 }
 
-// Adds the mark of an entry with these words, if its row is shown.
-fn write_mark(
-    alloc: Global,
-    text: &mut String,
-    plan: &Plan,
-    end: usize,
-    k: usize,
-    entry: Entry,
-    words: &str,
-) -> Result<(), AllocError>
-    requires few { end ≤ most_entries }
-    requires low { k ≤ most_entries }
-    ensures { OnOk result (string_bytes text.new ≡ string_bytes text.old
-        ++ mark_text plan.now end k entry words.now) }
+// Adds the mark of an entry, if its row is shown: these words where there are 40 units for them, else a line.
+fn write_mark(text: &mut String, drawing: &Drawing, k: usize, entry: Entry, words: &str) -> Written
+    requires { k ≤ most_entries }
+    ensures { OnOk result (Adds text.old
+        (mark_text (view_of drawing.now) k entry words.now) text.new) }
 {
-    if is_shown(end, row_of(end, k)) {
-        write_shown_mark(alloc, text, plan, end, k, entry, words)
-    } else {
-        Ok(())
+    let row = drawing.row_of(k);
+    if !drawing.is_shown(row) {
+        return Ok(());
     }
-}
-
-// Adds the mark of an entry with these words.
-fn write_shown_mark(
-    alloc: Global,
-    text: &mut String,
-    plan: &Plan,
-    end: usize,
-    k: usize,
-    entry: Entry,
-    words: &str,
-) -> Result<(), AllocError>
-    requires few { end ≤ most_entries }
-    requires low { k ≤ most_entries }
-    ensures { OnOk result (string_bytes text.new ≡ string_bytes text.old
-        ++ shown_mark plan.now end k entry words.now) }
-{
-    let title = entry_words(alloc, k, entry)?;
-    let y = mark_y(row_y(plan, end, row_of(end, k)), hart_of(entry));
-    write_placed(
-        text,
-        step_of(end),
-        entry_x(end, k),
-        y,
-        look_of(entry),
-        words,
-        title.as_str(),
-    )
+    let title = entry_words(drawing.alloc, k, entry)?;
+    let x = drawing.entry_x(k);
+    let y = mark_y(drawing.row_y(row), hart_of(entry));
+    if drawing.step() < 40 {
+        write_line(text, x, y, look_of(entry), title.as_str())
+    } else {
+        write_titled(text, x, y, words, title.as_str())
+    }
 }
 
 // The foot of the marks of a lane.
@@ -163,37 +104,10 @@ fn mark_y(top: usize, hart: u8) -> usize
     lane_y(top, hart) + 6
 }
 
-// Adds a mark: its words where there are 40 units for them, else a line.
-fn write_placed(
-    text: &mut String,
-    step: usize,
-    x: usize,
-    y: usize,
-    look: &str,
-    words: &str,
-    title: &str,
-) -> Result<(), AllocError>
-    ensures { OnOk result (string_bytes text.new ≡ string_bytes text.old
-        ++ placed_mark step x y look.now words.now title.now) }
-{
-    if step < 40 {
-        write_line(text, x, y, look, title)
-    } else {
-        write_titled(text, x, y, words, title)
-    }
-}
-
 // Adds a line with a title.
 #[tactic(auto, unfolding(crate::specs::SvgMarks::line_svg))]
-fn write_line(
-    text: &mut String,
-    x: usize,
-    y: usize,
-    look: &str,
-    title: &str,
-) -> Result<(), AllocError>
-    ensures { OnOk result (string_bytes text.new ≡ string_bytes text.old
-        ++ line_svg x y look.now title.now) }
+fn write_line(text: &mut String, x: usize, y: usize, look: &str, title: &str) -> Written
+    ensures { OnOk result (Adds text.old (line_svg x y look.now title.now) text.new) }
 {
     write!(
         text,
@@ -203,15 +117,8 @@ fn write_line(
 
 // Adds words with a title.
 #[tactic(auto, unfolding(crate::specs::SvgMarks::titled_svg))]
-fn write_titled(
-    text: &mut String,
-    x: usize,
-    y: usize,
-    words: &str,
-    title: &str,
-) -> Result<(), AllocError>
-    ensures { OnOk result (string_bytes text.new ≡ string_bytes text.old
-        ++ titled_svg x y words.now title.now) }
+fn write_titled(text: &mut String, x: usize, y: usize, words: &str, title: &str) -> Written
+    ensures { OnOk result (Adds text.old (titled_svg x y words.now title.now) text.new) }
 {
     write!(
         text,
@@ -232,100 +139,52 @@ fn look_of(entry: Entry) -> &'static str
 }
 
 /// Adds the strip.
-pub(crate) fn write_strip(
-    alloc: Global,
-    text: &mut String,
-    plan: &Plan,
-    end: usize,
-    list: &[Entry],
-) -> Result<(), AllocError>
-    requires few { end ≤ most_entries }
-    requires short { length list.now ≤ most_entries }
-    ensures { OnOk result (string_bytes text.new ≡ string_bytes text.old
-        ++ strip_svg plan.now end (first_state plan.now) 0 list.now) }
+pub(crate) fn write_strip(text: &mut String, drawing: &Drawing) -> Written
+    ensures { OnOk result (Adds text.old (strip_svg (view_of drawing.now)
+        (first_state drawing.now.board.plan) 0 drawing.now.list.now) text.new) }
 {
-    let mut board = Board::new(alloc, plan)?;
+    let mut board = Board::new(drawing.alloc, drawing.plan())?;
     let mut wishing = Wishing::none();
-    for (k, entry) in list.iter().enumerate() {
-        write_figures(alloc, text, &board, wishing, end, k)?;
+    for (k, entry) in drawing.list.iter().enumerate() {
+        write_figures(text, drawing, &board, wishing, k)?;
         wishing = admit_and_follow(&mut board, wishing, *entry);
     }
-    write_figures(alloc, text, &board, wishing, end, list.len())
+    write_figures(text, drawing, &board, wishing, drawing.list.len())
 }
 
 // Adds the figures of a place, if its row is shown.
 fn write_figures(
-    alloc: Global,
     text: &mut String,
+    drawing: &Drawing,
     board: &Board,
     wishing: Wishing,
-    end: usize,
     k: usize,
-) -> Result<(), AllocError>
-    requires few { end ≤ most_entries }
+) -> Written
     requires low { k ≤ most_entries }
+    requires plan { board.now.plan ≡ drawing.now.board.plan }
     requires within { HasWishesWithin board.now.plan board.now.state wishing.low wishing.high }
-    ensures { OnOk result (string_bytes text.new ≡ string_bytes text.old
-        ++ figures_svg board.now.plan end board.now.state k) }
+    ensures { OnOk result (Adds text.old
+        (figures_svg (view_of drawing.now) board.now.state k) text.new) }
 {
-    if is_shown(end, row_of(end, k)) {
-        write_shown_figures(
-            alloc,
-            text,
-            board.plan(),
-            end,
-            k,
-            figures_of(board, wishing),
-        )
-    } else {
-        Ok(())
+    if !drawing.is_shown(drawing.row_of(k)) {
+        return Ok(());
     }
-}
-
-// Adds the figures of a place.
-fn write_shown_figures(
-    alloc: Global,
-    text: &mut String,
-    plan: &Plan,
-    end: usize,
-    k: usize,
-    figures: Figures,
-) -> Result<(), AllocError>
-    requires few { end ≤ most_entries }
-    requires low { k ≤ most_entries }
-    ensures { OnOk result (string_bytes text.new ≡ string_bytes text.old
-        ++ shown_figures plan.now end k figures) }
-{
-    let y = strip_y(plan, row_y(plan, end, row_of(end, k)));
-    write_red(alloc, text, place_x(end, k), y, step_of(end), k, figures)?;
-    write_numbers(alloc, text, place_x(end, k) + 12, y, step_of(end), figures)
+    let figures = figures_of(board, wishing);
+    write_red(text, drawing, k, figures)?;
+    write_numbers(text, drawing, k, figures)
 }
 
 // Adds a red rectangle where a lender missed a wish.
-fn write_red(
-    alloc: Global,
-    text: &mut String,
-    x: usize,
-    y: usize,
-    width: usize,
-    k: usize,
-    figures: Figures,
-) -> Result<(), AllocError>
-    ensures { OnOk result (string_bytes text.new ≡ string_bytes text.old
-        ++ red_svg x y width k figures) }
+fn write_red(text: &mut String, drawing: &Drawing, k: usize, figures: Figures) -> Written
+    ensures { OnOk result (Adds text.old (red_svg (view_of drawing.now) k figures) text.new) }
 {
     if !figures.missed {
         return Ok(());
     }
-    let title = figures_words(alloc, k, figures)?;
-    write_rect(
-        text,
-        x,
-        y,
-        width,
-        "#f6b3b9' stroke='#b00020",
-        title.as_str(),
-    )
+    let title = figures_words(drawing.alloc, k, figures)?;
+    let (x, y) = (drawing.place_x(k), drawing.strip_y(drawing.row_of(k)));
+    let red = "#f6b3b9' stroke='#b00020";
+    write_rect(text, x, y, drawing.step(), red, title.as_str())
 }
 
 // The figures of a place in words.
@@ -338,84 +197,58 @@ fn figures_words(alloc: Global, k: usize, figures: Figures) -> Result<String, Al
 }
 
 // Adds both numbers, where there is room.
-fn write_numbers(
-    alloc: Global,
-    text: &mut String,
-    x: usize,
-    y: usize,
-    width: usize,
-    figures: Figures,
-) -> Result<(), AllocError>
-    requires { y ≤ 5000000000000 }
-    ensures { OnOk result (string_bytes text.new ≡ string_bytes text.old
-        ++ numbers_svg x y width figures) }
+fn write_numbers(text: &mut String, drawing: &Drawing, k: usize, figures: Figures) -> Written
+    ensures { OnOk result (Adds text.old (numbers_svg (view_of drawing.now) k figures) text.new) }
 {
-    if width < 24 {
+    if drawing.step() < 24 {
         return Ok(());
     }
-    write_number(alloc, text, x, y + 11, figures.unmet)?;
-    write_number(alloc, text, x, y + 25, u32::from(figures.idle))
-}
-
-// Adds a number at a place.
-fn write_number(
-    alloc: Global,
-    text: &mut String,
-    x: usize,
-    y: usize,
-    number: u32,
-) -> Result<(), AllocError>
-    ensures { OnOk result (string_bytes text.new ≡ string_bytes text.old
-        ++ mark_svg x y (decimal number)) }
-{
-    let words = format!(in alloc; "{number}")?;
-    write_at(text, x, y, words.as_str())
+    let x = drawing.place_x(k) + 12;
+    let y = drawing.strip_y(drawing.row_of(k));
+    write_number(text, x, y + 11, figures.unmet as usize)?;
+    write_number(text, x, y + 25, figures.idle as usize)
 }
 
 /// Adds the mark of the fault with its words, if there is one.
 pub(crate) fn write_fault(
     text: &mut String,
-    plan: &Plan,
-    end: usize,
+    drawing: &Drawing,
     faulty: bool,
     words: &str,
-) -> Result<(), AllocError>
-    requires { end ≤ most_entries }
-    ensures { OnOk result (string_bytes text.new ≡ string_bytes text.old
-        ++ fault_svg plan.now end faulty words.now) }
+) -> Written
+    ensures { OnOk result (Adds text.old
+        (fault_svg (view_of drawing.now) faulty words.now) text.new) }
 {
     if !faulty {
         return Ok(());
     }
-    let top = row_y(plan, end, row_of(end, end));
-    let x = entry_x(end, end);
-    write_fault_line(text, x, top + 40, 44 * plan.harts() as usize)?;
-    write_fault_word(text, x, top + 24, words)?;
-    write_fault_note(text, fault_x(rows_of(end)), words)
+    let end = drawing.list.len();
+    let top = drawing.row_y(drawing.row_of(end));
+    write_fault_marks(text, drawing, drawing.entry_x(end), top, words)
 }
 
-// Adds the line of a fault.
-#[tactic(auto, unfolding(crate::specs::SvgMarks::fault_line))]
-fn write_fault_line(
+// Adds the line, the word and the words of a fault, whose row begins at this height.
+fn write_fault_marks(
     text: &mut String,
+    drawing: &Drawing,
     x: usize,
-    upper: usize,
-    height: usize,
-) -> Result<(), AllocError>
-    ensures { OnOk result (string_bytes text.new ≡ string_bytes text.old
-        ++ fault_line x upper height) }
+    top: usize,
+    words: &str,
+) -> Written
+    requires { top ≤ 4000000000000 }
+    ensures { OnOk result (Adds text.old
+        (fault_marks (view_of drawing.now) x top words.now) text.new) }
 {
-    write!(
-        text,
-        "<path d='M{x} {upper}v{height}' stroke='#b00020' stroke-width='3' stroke-dasharray='6 3'/>\n"
-    )
+    let stroke = "#b00020' stroke-width='3' stroke-dasharray='6 3";
+    write_guide(text, drawing, x, top, stroke)?;
+    write_fault_word(text, x, top + 24, words)?;
+    write_fault_note(text, fault_x(drawing.rows()), words)
 }
 
 // Adds the word of a fault, with the words of the fault as its title.
 #[tactic(auto, unfolding(crate::specs::SvgMarks::fault_word))]
-fn write_fault_word(text: &mut String, x: usize, y: usize, words: &str) -> Result<(), AllocError>
-    ensures { OnOk result (string_bytes text.new ≡ string_bytes text.old
-        ++ fault_word x y words.now) }
+fn write_fault_word(text: &mut String, x: usize, y: usize, words: &str) -> Written
+    ensures { OnOk result (Adds text.old (fault_word x y words.now) text.new) }
 {
     write!(
         text,
@@ -432,9 +265,8 @@ fn fault_x(rows: usize) -> usize
 
 // Adds the words of a fault below the verdict.
 #[tactic(auto, unfolding(crate::specs::SvgMarks::fault_note))]
-fn write_fault_note(text: &mut String, x: usize, words: &str) -> Result<(), AllocError>
-    ensures { OnOk result (string_bytes text.new ≡ string_bytes text.old
-        ++ fault_note x words.now) }
+fn write_fault_note(text: &mut String, x: usize, words: &str) -> Written
+    ensures { OnOk result (Adds text.old (fault_note x words.now) text.new) }
 {
     write!(
         text,

@@ -1,20 +1,21 @@
 //! The picture as SVG.
-ghost use Rattle.std.specs.Prelude.{◌≡◌, ◌≤◌, ◌++◌, IfOk, OnOk, length, string_bytes};
+ghost use Rattle.std.specs.Prelude.{◌≡◌, ◌≤◌, ◌++◌, IfOk, OnOk, length};
 ghost use Rattle.transfer_table.specs.Plan.{site_count, most_entries};
-ghost use Rattle.journal_picture.specs.SvgPicture.{base_swatches, end_svg, escaped, escaped_byte, frame_svg, head_of, head_svg, legend_svg, marks_note, note_svg, over_svg, picture_svg, rows_note, shown_svg, site_swatches, svg_of, svg_picture, swatch_svg, swatches_svg, title_of, title_svg, under_svg, words_svg};
+ghost use Rattle.journal_picture.specs.SvgPicture.{base_swatches, end_svg, escaped, escaped_byte, frame_svg, head_of, head_svg, legend_svg, marks_note, note_svg, over_svg, picture_svg, shown_svg, site_swatches, svg_picture, swatch_svg, title_svg, words_svg};
+ghost use Rattle.journal_picture.specs.Texts.{Adds};
+ghost use Rattle.journal_picture.specs.Views.{view_of};
 
-use crate::axis::{write_at, write_rows, write_ticks};
-use crate::bars::{base_fill, site_fill, write_lanes, write_rect};
-use crate::drawn::{before, board_after};
+use crate::axis::{write_rows, write_ticks};
+use crate::bars::{base_fill, site_fill, write_at, write_lanes, write_rect};
+use crate::drawing::Drawing;
+use crate::drawn::before;
 use crate::faults::words_of;
 use crate::marks::{write_fault, write_marks, write_strip};
-use crate::scale::{rows_bottom, rows_of, step_of, width_of};
 use crate::shape::Shape;
 use crate::table::{tables_height, write_tables};
-use crate::travels::{Travels, travels_of};
-use crate::visits::{Visits, visits_of};
+use crate::words::Written;
 use std::alloc::{AllocError, Global};
-use transfer_table::{Board, Entry, Plan, first_fault};
+use transfer_table::{Entry, Plan, first_fault};
 
 /// The picture of the list as SVG 1.1, up to its first fault; the plan's sites have these shapes. The verdict stands below the title,
 /// with `<` and `&` escaped; in place of a byte that is no printable letter of ASCII and no line's end stands `?`. The list has at
@@ -42,39 +43,9 @@ pub fn svg_picture(
 {
     let fault = first_fault(alloc, plan, meant, list)?;
     let words = words_of(alloc, plan, list, fault)?;
-    let drawn = before(fault, list);
-    svg_of(
-        alloc,
-        plan,
-        shapes,
-        drawn,
-        fault.is_some(),
-        words.as_str(),
-        verdict,
-    )
-}
-
-// The picture of these entries, at whose end there is a fault with these words, or none.
-fn svg_of(
-    alloc: Global,
-    plan: &Plan,
-    shapes: &[Shape],
-    list: &[Entry],
-    faulty: bool,
-    words: &str,
-    verdict: &[u8],
-) -> Result<Vec<u8>, AllocError>
-    requires { length list.now ≤ most_entries }
-    ensures { IfOk result
-        (λ text. text.items ≡ svg_of plan.now shapes.now list.now faulty words.now verdict.now) }
-{
-    let board = board_after(alloc, plan, list)?;
-    let visits = visits_of(alloc, plan, list)?;
-    let travels = travels_of(alloc, plan, list)?;
+    let drawing = Drawing::new(alloc, plan, shapes, before(fault, list))?;
     let mut text = String::new(alloc);
-    write_shown(
-        alloc, &mut text, &board, &visits, &travels, shapes, list, faulty, words,
-    )?;
+    write_shown(&mut text, &drawing, fault.is_some(), words.as_str())?;
     ended(text.into_bytes(), verdict)
 }
 
@@ -89,7 +60,7 @@ fn ended(text: Vec<u8>, verdict: &[u8]) -> Result<Vec<u8>, AllocError>
 }
 
 // Adds the verdict, as XML has it.
-fn add_escaped(whole: &mut Vec<u8>, verdict: &[u8]) -> Result<(), AllocError>
+fn add_escaped(whole: &mut Vec<u8>, verdict: &[u8]) -> Written
     ensures { OnOk result (whole.new.items ≡ whole.old.items ++ escaped verdict.now) }
 {
     for byte in verdict {
@@ -99,7 +70,7 @@ fn add_escaped(whole: &mut Vec<u8>, verdict: &[u8]) -> Result<(), AllocError>
 }
 
 // Adds a byte of the verdict, as XML has it.
-fn add_byte(whole: &mut Vec<u8>, byte: u8) -> Result<(), AllocError>
+fn add_byte(whole: &mut Vec<u8>, byte: u8) -> Written
     ensures { OnOk result (whole.new.items ≡ whole.old.items ++ escaped_byte byte) }
 {
     match byte {
@@ -111,110 +82,55 @@ fn add_byte(whole: &mut Vec<u8>, byte: u8) -> Result<(), AllocError>
 }
 
 // Adds all that stands before the verdict.
-fn write_shown(
-    alloc: Global,
-    text: &mut String,
-    board: &Board,
-    visits: &[Visits],
-    travels: &[Travels],
-    shapes: &[Shape],
-    list: &[Entry],
-    faulty: bool,
-    words: &str,
-) -> Result<(), AllocError>
-    requires few { length list.now ≤ most_entries }
-    requires visits { length visits.now ≡ site_count board.now.plan }
-    requires travels { length travels.now ≤ 255 }
-    ensures { OnOk result (string_bytes text.new ≡ string_bytes text.old
-        ++ shown_svg board.now.plan board.now.state visits.now travels.now shapes.now list.now
-        faulty words.now) }
+fn write_shown(text: &mut String, drawing: &Drawing, faulty: bool, words: &str) -> Written
+    ensures { OnOk result (Adds text.old
+        (shown_svg (view_of drawing.now) faulty words.now) text.new) }
 {
-    write_frame(text, board.plan(), list.len())?;
-    write_picture(alloc, text, board, shapes, list, faulty, words)?;
-    let top = rows_bottom(board.plan(), list.len()) + 90;
-    write_tables(alloc, text, board, visits, travels, shapes, top)?;
+    write_frame(text, drawing)?;
+    write_picture(text, drawing, faulty, words)?;
+    write_tables(text, drawing)?;
     text.push_str("<text x='16' y='52' font-size='14' text-anchor='start'>")
 }
 
 // Adds the frame: head, title, note and legend.
-fn write_frame(text: &mut String, plan: &Plan, end: usize) -> Result<(), AllocError>
-    requires { end ≤ most_entries }
-    ensures { OnOk result (string_bytes text.new ≡ string_bytes text.old ++ frame_svg plan.now end) }
+fn write_frame(text: &mut String, drawing: &Drawing) -> Written
+    ensures { OnOk result (Adds text.old (frame_svg (view_of drawing.now)) text.new) }
 {
-    write_head(text, plan, end)?;
-    write_title(text, plan, end)?;
-    write_note(text, rows_of(end))?;
-    write_legend(text, step_of(end), rows_bottom(plan, end) + 8)
+    let plan = drawing.plan();
+    write_head(text, drawing)?;
+    write_title(text, plan.harts(), plan.sites(), drawing.list.len())?;
+    write_note(text, drawing.rows())?;
+    write_legend(text, drawing)
 }
 
-// Adds the rows, the bars, and what lies over them.
-fn write_picture(
-    alloc: Global,
-    text: &mut String,
-    board: &Board,
-    shapes: &[Shape],
-    list: &[Entry],
-    faulty: bool,
-    words: &str,
-) -> Result<(), AllocError>
-    requires { length list.now ≤ most_entries }
-    ensures { OnOk result (string_bytes text.new ≡ string_bytes text.old
-        ++ picture_svg board.now.plan board.now.state shapes.now list.now faulty words.now) }
+// Adds the rows: what lies under the bars, the bars, and what lies over them.
+fn write_picture(text: &mut String, drawing: &Drawing, faulty: bool, words: &str) -> Written
+    ensures { OnOk result (Adds text.old
+        (picture_svg (view_of drawing.now) faulty words.now) text.new) }
 {
-    write_under(alloc, text, board.plan(), list)?;
-    write_lanes(alloc, text, board.plan(), shapes, list)?;
-    write_over(alloc, text, board, list, faulty, words)
-}
-
-// Adds what lies under the bars.
-fn write_under(
-    alloc: Global,
-    text: &mut String,
-    plan: &Plan,
-    list: &[Entry],
-) -> Result<(), AllocError>
-    requires { length list.now ≤ most_entries }
-    ensures { OnOk result (string_bytes text.new ≡ string_bytes text.old
-        ++ under_svg plan.now list.now) }
-{
-    write_rows(text, plan, list.len(), rows_of(list.len()))?;
-    write_ticks(alloc, text, plan, list.len(), list)
+    write_rows(text, drawing)?;
+    write_ticks(text, drawing)?;
+    write_lanes(text, drawing)?;
+    write_over(text, drawing, faulty, words)
 }
 
 // Adds what lies over the bars, and the fault with its words.
-fn write_over(
-    alloc: Global,
-    text: &mut String,
-    board: &Board,
-    list: &[Entry],
-    faulty: bool,
-    words: &str,
-) -> Result<(), AllocError>
-    requires { length list.now ≤ most_entries }
-    ensures { OnOk result (string_bytes text.new ≡ string_bytes text.old
-        ++ over_svg board.now.plan board.now.state list.now faulty words.now) }
+fn write_over(text: &mut String, drawing: &Drawing, faulty: bool, words: &str) -> Written
+    ensures { OnOk result (Adds text.old
+        (over_svg (view_of drawing.now) faulty words.now) text.new) }
 {
-    write_marks(alloc, text, board, list.len(), list)?;
-    write_strip(alloc, text, board.plan(), list.len(), list)?;
-    write_fault(text, board.plan(), list.len(), faulty, words)
+    write_marks(text, drawing)?;
+    write_strip(text, drawing)?;
+    write_fault(text, drawing, faulty, words)
 }
 
 // Adds that rows are left out, if some are.
-fn write_note(text: &mut String, rows: usize) -> Result<(), AllocError>
-    ensures { OnOk result (string_bytes text.new ≡ string_bytes text.old ++ note_svg rows) }
+fn write_note(text: &mut String, rows: usize) -> Written
+    ensures { OnOk result (Adds text.old (note_svg rows) text.new) }
 {
     if rows <= 32 {
-        Ok(())
-    } else {
-        write_rows_note(text, rows)
+        return Ok(());
     }
-}
-
-// Adds that rows are left out.
-#[tactic(auto, unfolding(crate::specs::SvgPicture::rows_note))]
-fn write_rows_note(text: &mut String, rows: usize) -> Result<(), AllocError>
-    ensures { OnOk result (string_bytes text.new ≡ string_bytes text.old ++ rows_note rows) }
-{
     write!(
         text,
         "<text x='260' y='72' text-anchor='start'>of {rows} rows the first 16 and the last 16 are shown</text>\n"
@@ -222,18 +138,17 @@ fn write_rows_note(text: &mut String, rows: usize) -> Result<(), AllocError>
 }
 
 // Adds the head.
-fn write_head(text: &mut String, plan: &Plan, end: usize) -> Result<(), AllocError>
-    requires { end ≤ most_entries }
-    ensures { OnOk result (string_bytes text.new ≡ string_bytes text.old ++ head_svg plan.now end) }
+fn write_head(text: &mut String, drawing: &Drawing) -> Written
+    ensures { OnOk result (Adds text.old (head_svg (view_of drawing.now)) text.new) }
 {
-    let height = rows_bottom(plan, end) + 76 + tables_height(plan);
-    write_head_of(text, width_of(end), height)
+    let height = drawing.rows_bottom() + 76 + tables_height(drawing);
+    write_head_of(text, drawing.width(), height)
 }
 
 // Adds the head of a picture of this size.
 #[tactic(auto, unfolding(crate::specs::SvgPicture::head_of))]
-fn write_head_of(text: &mut String, width: usize, height: usize) -> Result<(), AllocError>
-    ensures { OnOk result (string_bytes text.new ≡ string_bytes text.old ++ head_of width height) }
+fn write_head_of(text: &mut String, width: usize, height: usize) -> Written
+    ensures { OnOk result (Adds text.old (head_of width height) text.new) }
 {
     write!(
         text,
@@ -241,23 +156,10 @@ fn write_head_of(text: &mut String, width: usize, height: usize) -> Result<(), A
     )
 }
 
-// Adds the title.
-fn write_title(text: &mut String, plan: &Plan, end: usize) -> Result<(), AllocError>
-    ensures { OnOk result (string_bytes text.new ≡ string_bytes text.old ++ title_svg plan.now end) }
-{
-    write_title_of(text, plan.harts(), plan.sites(), end)
-}
-
-// Adds the title by these numbers.
-#[tactic(auto, unfolding(crate::specs::SvgPicture::title_of))]
-fn write_title_of(
-    text: &mut String,
-    harts: u8,
-    sites: u16,
-    entries: usize,
-) -> Result<(), AllocError>
-    ensures { OnOk result (string_bytes text.new ≡ string_bytes text.old
-        ++ title_of harts sites entries) }
+// Adds the title with these numbers.
+#[tactic(auto, unfolding(crate::specs::SvgPicture::title_svg))]
+fn write_title(text: &mut String, harts: u8, sites: u16, entries: usize) -> Written
+    ensures { OnOk result (Adds text.old (title_svg harts sites entries) text.new) }
 {
     write!(
         text,
@@ -265,38 +167,30 @@ fn write_title_of(
     )
 }
 
-// Adds the legend at this upper end.
-fn write_legend(text: &mut String, step: usize, y: usize) -> Result<(), AllocError>
-    requires { y ≤ 5000000000000 }
-    ensures { OnOk result (string_bytes text.new ≡ string_bytes text.old ++ legend_svg step y) }
+// Adds the legend.
+fn write_legend(text: &mut String, drawing: &Drawing) -> Written
+    ensures { OnOk result (Adds text.old (legend_svg (view_of drawing.now)) text.new) }
 {
+    let y = drawing.rows_bottom() + 8;
     text.push_str("<g text-anchor='start'>\n")?;
-    write_swatches(text, y)?;
-    write_words(text, y + 32, y + 50, marks_note(step))
-}
-
-// Adds the colours of the legend.
-fn write_swatches(text: &mut String, y: usize) -> Result<(), AllocError>
-    requires { y ≤ 5000000000000 }
-    ensures { OnOk result (string_bytes text.new ≡ string_bytes text.old ++ swatches_svg y) }
-{
     write_base_swatches(text, y)?;
-    write_site_swatches(text, y)
+    write_site_swatches(text, y)?;
+    write_words(text, y + 32, y + 50, marks_note(drawing.step()))
 }
 
 // Adds the colours of the base.
-fn write_base_swatches(text: &mut String, y: usize) -> Result<(), AllocError>
+fn write_base_swatches(text: &mut String, y: usize) -> Written
     requires { y ≤ 5000000000000 }
-    ensures { OnOk result (string_bytes text.new ≡ string_bytes text.old ++ base_swatches y) }
+    ensures { OnOk result (Adds text.old (base_swatches y) text.new) }
 {
     write_swatch(text, 56, y, base_fill(0), "the program's body")?;
     write_swatch(text, 216, y, base_fill(1), "an idle hart")
 }
 
 // Adds the colours of sites, and that of a missed wish.
-fn write_site_swatches(text: &mut String, y: usize) -> Result<(), AllocError>
+fn write_site_swatches(text: &mut String, y: usize) -> Written
     requires { y ≤ 5000000000000 }
-    ensures { OnOk result (string_bytes text.new ≡ string_bytes text.old ++ site_swatches y) }
+    ensures { OnOk result (Adds text.old (site_swatches y) text.new) }
 {
     write_swatch(text, 336, y, site_fill(false, 1), "a site")?;
     write_swatch(text, 416, y, site_fill(true, 1), "a site of phases")?;
@@ -304,17 +198,10 @@ fn write_site_swatches(text: &mut String, y: usize) -> Result<(), AllocError>
 }
 
 // Adds a colour of the legend and what it means.
-fn write_swatch(
-    text: &mut String,
-    x: usize,
-    y: usize,
-    fill: &str,
-    words: &str,
-) -> Result<(), AllocError>
+fn write_swatch(text: &mut String, x: usize, y: usize, fill: &str, words: &str) -> Written
     requires left { x ≤ 100000 }
     requires upper { y ≤ 5000000000000 }
-    ensures { OnOk result (string_bytes text.new ≡ string_bytes text.old
-        ++ swatch_svg x y fill.now words.now) }
+    ensures { OnOk result (Adds text.old (swatch_svg x y fill.now words.now) text.new) }
 {
     write_rect(text, x, y, 24, fill, words)?;
     write_at(text, x + 32, y + 11, words)
@@ -322,9 +209,8 @@ fn write_swatch(
 
 // Adds the legend's lines about heights and marks.
 #[tactic(auto, unfolding(crate::specs::SvgPicture::words_svg))]
-fn write_words(text: &mut String, first: usize, second: usize, note: &str) -> Result<(), AllocError>
-    ensures { OnOk result (string_bytes text.new ≡ string_bytes text.old
-        ++ words_svg first second note.now) }
+fn write_words(text: &mut String, first: usize, second: usize, note: &str) -> Written
+    ensures { OnOk result (Adds text.old (words_svg first second note.now) text.new) }
 {
     write!(
         text,

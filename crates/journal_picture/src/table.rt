@@ -1,45 +1,41 @@
 //! The table of sites, and with it the table of harts.
-ghost use Rattle.std.specs.Prelude.{◌≡◌, ◌≤◌, ◌++◌, ◌*◌, ◌+◌, ◌-◌, IfOk, OnOk, length, min, string_bytes};
+ghost use Rattle.std.specs.Prelude.{◌≡◌, ◌≤◌, IfOk, OnOk, string_bytes};
 ghost use Rattle.transfer_table.specs.Plan.{IsSite, site_count};
-ghost use Rattle.journal_picture.specs.SvgTable.{inside_text, is_listed, listed_row, rows_from, site_row, site_words, sites_note, sites_table, slot_at, table_head, table_height, table_row, table_svg, tables_height, tables_svg, visits_part, wishes_part};
+ghost use Rattle.journal_picture.specs.SvgTable.{inside_text, is_listed, listed_row, rows_from, site_words, sites_note, slot_at, table_head, table_height, table_svg, table_top, tables_height, tables_svg, visits_part, wishes_part};
+ghost use Rattle.journal_picture.specs.Texts.{Adds};
+ghost use Rattle.journal_picture.specs.Views.{view_of};
 
 use crate::bars::{about_text, shape_of};
+use crate::drawing::Drawing;
 use crate::harts::{harts_height, write_harts_table};
-use crate::shape::Shape;
-use crate::travels::Travels;
 use crate::tree::write_fate;
 use crate::visits::Visits;
-use crate::words::site_name;
+use crate::words::{Written, site_name};
 use std::alloc::{AllocError, Global};
-use transfer_table::{Board, Plan};
 
 /// How high both tables are.
-pub(crate) fn tables_height(plan: &Plan) -> usize
-    ensures same { result ≡ tables_height plan.now }
+pub(crate) fn tables_height(drawing: &Drawing) -> usize
+    ensures same { result ≡ tables_height (view_of drawing.now) }
     ensures low { result ≤ 6000 }
 {
-    table_height(plan.sites()) + harts_height(plan.harts())
+    table_height(drawing.plan().sites()) + harts_height(drawing.plan().harts())
 }
 
-/// Adds the tables of sites and of harts, with their first line at this height.
-pub(crate) fn write_tables(
-    alloc: Global,
-    text: &mut String,
-    board: &Board,
-    visits: &[Visits],
-    travels: &[Travels],
-    shapes: &[Shape],
-    top: usize,
-) -> Result<(), AllocError>
-    requires visits { length visits.now ≡ site_count board.now.plan }
-    requires travels { length travels.now ≤ 255 }
-    requires upper { top ≤ 5000000000000 }
-    ensures { OnOk result (string_bytes text.new ≡ string_bytes text.old
-        ++ tables_svg board.now.plan board.now.state visits.now travels.now shapes.now top) }
+/// Adds the tables of sites and of harts.
+pub(crate) fn write_tables(text: &mut String, drawing: &Drawing) -> Written
+    ensures { OnOk result (Adds text.old (tables_svg (view_of drawing.now)) text.new) }
 {
-    write_table(alloc, text, board, visits, shapes, top)?;
-    let next = top + table_height(board.plan().sites());
-    write_harts_table(text, travels, next)
+    write_table(text, drawing)?;
+    let next = table_top(drawing) + table_height(drawing.plan().sites());
+    write_harts_table(text, &drawing.travels, next)
+}
+
+// The height of the first line of the table of sites.
+fn table_top(drawing: &Drawing) -> usize
+    ensures same { result ≡ table_top (view_of drawing.now) }
+    ensures upper { result ≤ 5000000000000 }
+{
+    drawing.rows_bottom() + 90
 }
 
 // How high the table of so many sites is.
@@ -54,44 +50,16 @@ fn table_height(sites: u16) -> usize
 }
 
 // Adds the table of sites, if there are some.
-fn write_table(
-    alloc: Global,
-    text: &mut String,
-    board: &Board,
-    visits: &[Visits],
-    shapes: &[Shape],
-    top: usize,
-) -> Result<(), AllocError>
-    requires visits { length visits.now ≡ site_count board.now.plan }
-    requires upper { top ≤ 5000000000000 }
-    ensures { OnOk result (string_bytes text.new ≡ string_bytes text.old
-        ++ table_svg board.now.plan board.now.state visits.now shapes.now top) }
+fn write_table(text: &mut String, drawing: &Drawing) -> Written
+    ensures { OnOk result (Adds text.old (table_svg (view_of drawing.now)) text.new) }
 {
-    if board.plan().sites() == 0 {
-        Ok(())
-    } else {
-        write_sites_table(alloc, text, board, visits, shapes, top)
+    let sites = drawing.plan().sites();
+    if sites == 0 {
+        return Ok(());
     }
-}
-
-// Adds the table of sites.
-fn write_sites_table(
-    alloc: Global,
-    text: &mut String,
-    board: &Board,
-    visits: &[Visits],
-    shapes: &[Shape],
-    top: usize,
-) -> Result<(), AllocError>
-    requires visits { length visits.now ≡ site_count board.now.plan }
-    requires upper { top ≤ 5000000000000 }
-    ensures { OnOk result (string_bytes text.new ≡ string_bytes text.old
-        ++ sites_table board.now.plan board.now.state visits.now shapes.now top
-        (site_count board.now.plan)) }
-{
-    let note = sites_note(alloc, board.plan().sites())?;
-    write_table_head(text, top, note.as_str())?;
-    write_rows(alloc, text, board, visits, shapes, top)
+    let note = sites_note(drawing.alloc, sites)?;
+    write_table_head(text, table_top(drawing), note.as_str())?;
+    write_rows(text, drawing)
 }
 
 // The name of the sites' column, which says if sites are left out.
@@ -107,9 +75,8 @@ fn sites_note(alloc: Global, sites: u16) -> Result<String, AllocError>
 
 // Adds the names of the columns.
 #[tactic(auto, unfolding(crate::specs::SvgTable::table_head))]
-fn write_table_head(text: &mut String, y: usize, note: &str) -> Result<(), AllocError>
-    ensures { OnOk result (string_bytes text.new ≡ string_bytes text.old
-        ++ table_head y note.now) }
+fn write_table_head(text: &mut String, y: usize, note: &str) -> Written
+    ensures { OnOk result (Adds text.old (table_head y note.now) text.new) }
 {
     write!(
         text,
@@ -118,47 +85,34 @@ fn write_table_head(text: &mut String, y: usize, note: &str) -> Result<(), Alloc
 }
 
 // Adds the lines of all sites that are listed.
-fn write_rows(
-    alloc: Global,
-    text: &mut String,
-    board: &Board,
-    visits: &[Visits],
-    shapes: &[Shape],
-    top: usize,
-) -> Result<(), AllocError>
-    requires visits { length visits.now ≡ site_count board.now.plan }
-    requires upper { top ≤ 5000000000000 }
-    ensures { OnOk result (string_bytes text.new ≡ string_bytes text.old
-        ++ rows_from board.now.plan board.now.state visits.now shapes.now top 1
-        (site_count board.now.plan)) }
+fn write_rows(text: &mut String, drawing: &Drawing) -> Written
+    ensures { OnOk result (Adds text.old
+        (rows_from (view_of drawing.now) 1 (site_count drawing.now.board.plan)) text.new) }
 {
-    for i in 0..board.plan().sites() {
-        write_listed(alloc, text, board, visits, shapes, top, i + 1)?;
+    for i in 0..drawing.plan().sites() {
+        write_listed(text, drawing, i + 1)?;
     }
     Ok(())
 }
 
 // Adds the line of a site, if it is listed.
-fn write_listed(
-    alloc: Global,
-    text: &mut String,
-    board: &Board,
-    visits: &[Visits],
-    shapes: &[Shape],
-    top: usize,
-    site: u16,
-) -> Result<(), AllocError>
-    requires site { IsSite board.now.plan site }
-    requires visits { length visits.now ≡ site_count board.now.plan }
-    requires upper { top ≤ 5000000000000 }
-    ensures { OnOk result (string_bytes text.new ≡ string_bytes text.old
-        ++ listed_row board.now.plan board.now.state visits.now shapes.now top site) }
+fn write_listed(text: &mut String, drawing: &Drawing, site: u16) -> Written
+    requires { IsSite drawing.now.board.plan site }
+    ensures { OnOk result (Adds text.old (listed_row (view_of drawing.now) site) text.new) }
 {
-    if is_listed(board.plan().sites(), site) {
-        write_site_row(alloc, text, board, visits, shapes, top, site)
-    } else {
-        Ok(())
+    let sites = drawing.plan().sites();
+    if !is_listed(sites, site) {
+        return Ok(());
     }
+    let words = site_words(drawing, site)?;
+    let y = table_top(drawing) + 18 * slot_at(sites, site);
+    write_wishes_part(
+        text,
+        y,
+        drawing.board.asked(site),
+        drawing.board.wishes(site),
+    )?;
+    write_visits_part(text, drawing.visits[site as usize - 1], words.as_str())
 }
 
 // Whether the site is one of the first 20 or of the last 20.
@@ -182,64 +136,12 @@ fn slot_at(sites: u16, site: u16) -> usize
     }
 }
 
-// Adds the line of a site.
-fn write_site_row(
-    alloc: Global,
-    text: &mut String,
-    board: &Board,
-    visits: &[Visits],
-    shapes: &[Shape],
-    top: usize,
-    site: u16,
-) -> Result<(), AllocError>
-    requires site { IsSite board.now.plan site }
-    requires visits { length visits.now ≡ site_count board.now.plan }
-    requires upper { top ≤ 5000000000000 }
-    ensures { OnOk result (string_bytes text.new ≡ string_bytes text.old
-        ++ site_row board.now.plan board.now.state visits.now shapes.now top site) }
-{
-    let words = site_words(alloc, board, shapes, site)?;
-    let (asked, unmet) = (board.asked(site), board.wishes(site));
-    write_row(
-        text,
-        top + 18 * slot_at(board.plan().sites(), site),
-        asked,
-        asked.saturating_sub(unmet),
-        unmet,
-        visits[site as usize - 1],
-        words.as_str(),
-    )
-}
-
-// Adds a line by its numbers.
-fn write_row(
-    text: &mut String,
-    y: usize,
-    requested: u8,
-    met: u8,
-    unmet: u8,
-    visits: Visits,
-    words: &str,
-) -> Result<(), AllocError>
-    ensures { OnOk result (string_bytes text.new ≡ string_bytes text.old
-        ++ table_row y requested met unmet visits words.now) }
-{
-    write_wishes_part(text, y, requested, met, unmet)?;
-    write_visits_part(text, visits.guests, visits.entries, words)
-}
-
 // Adds the line's part about wishes.
 #[tactic(auto, unfolding(crate::specs::SvgTable::wishes_part))]
-fn write_wishes_part(
-    text: &mut String,
-    y: usize,
-    requested: u8,
-    met: u8,
-    unmet: u8,
-) -> Result<(), AllocError>
-    ensures { OnOk result (string_bytes text.new ≡ string_bytes text.old
-        ++ wishes_part y requested met unmet) }
+fn write_wishes_part(text: &mut String, y: usize, requested: u8, unmet: u8) -> Written
+    ensures { OnOk result (Adds text.old (wishes_part y requested unmet) text.new) }
 {
+    let met = requested.saturating_sub(unmet);
     write!(
         text,
         "<text y='{y}'><tspan x='86'>{requested}</tspan><tspan x='146'>{met}</tspan><tspan x='196'>{unmet}</tspan>"
@@ -248,15 +150,10 @@ fn write_wishes_part(
 
 // Adds the line's part about visits, and the site.
 #[tactic(auto, unfolding(crate::specs::SvgTable::visits_part))]
-fn write_visits_part(
-    text: &mut String,
-    guests: u8,
-    entries: u32,
-    words: &str,
-) -> Result<(), AllocError>
-    ensures { OnOk result (string_bytes text.new ≡ string_bytes text.old
-        ++ visits_part guests entries words.now) }
+fn write_visits_part(text: &mut String, visits: Visits, words: &str) -> Written
+    ensures { OnOk result (Adds text.old (visits_part visits words.now) text.new) }
 {
+    let (guests, entries) = (visits.guests, visits.entries);
     write!(
         text,
         "<tspan x='266'>{guests}</tspan><tspan x='366'>{entries}</tspan><tspan x='426' text-anchor='start'>{words}</tspan></text>\n"
@@ -264,28 +161,25 @@ fn write_visits_part(
 }
 
 // The site, what it is, where it is, and what became of it.
-fn site_words(
-    alloc: Global,
-    board: &Board,
-    shapes: &[Shape],
-    site: u16,
-) -> Result<String, AllocError>
-    requires { IsSite board.now.plan site }
-    ensures { IfOk result (λ words. string_bytes words
-        ≡ site_words board.now.plan board.now.state shapes.now site) }
+fn site_words(drawing: &Drawing, site: u16) -> Result<String, AllocError>
+    requires { IsSite drawing.now.board.plan site }
+    ensures { IfOk result (λ words. string_bytes words ≡ site_words (view_of drawing.now) site) }
 {
-    let about = about_text(alloc, shape_of(shapes, site), 0)?;
-    let mut words = site_name(alloc, site)?;
+    let about = about_text(drawing.alloc, shape_of(drawing.shapes, site), 0)?;
+    let mut words = site_name(drawing.alloc, site)?;
     words.push_str(about.as_str())?;
-    write_inside(&mut words, board.plan().parent(site))?;
-    write_fate(&mut words, board.stage(site), board.home(site))?;
+    write_inside(&mut words, drawing.plan().parent(site))?;
+    write_fate(
+        &mut words,
+        drawing.board.stage(site),
+        drawing.board.home(site),
+    )?;
     Ok(words)
 }
 
 // Adds the site around a site, if there is one.
-fn write_inside(words: &mut String, around: u16) -> Result<(), AllocError>
-    ensures { OnOk result (string_bytes words.new ≡ string_bytes words.old
-        ++ inside_text around) }
+fn write_inside(words: &mut String, around: u16) -> Written
+    ensures { OnOk result (Adds words.old (inside_text around) words.new) }
 {
     if around == 0 {
         Ok(())

@@ -1,22 +1,23 @@
 //! The picture in text.
-ghost use Rattle.std.specs.Prelude.{◌≡◌, ◌≤◌, ◌++◌, ◌*◌, ◌+◌, IfOk, OnOk, length, take, drop, string_bytes};
+ghost use Rattle.std.specs.Prelude.{◌≡◌, ◌≤◌, ◌++◌, ◌*◌, IfOk, OnOk, length, take, drop, string_bytes};
 ghost use Rattle.transfer_table.specs.Entry.{hart_of, site_of};
 ghost use Rattle.transfer_table.specs.Plan.{site_count, most_entries};
-ghost use Rattle.journal_picture.specs.TextPicture.{requesting, at_sites_line, at_sites_text, band_count, band_text, bands_text, deed, deed_lines, deeds_line, deeds_text, doer, doers_line, doers_text, hart_name, idle_line, idle_words, idles_text, lanes_text, mark_text, numbers_line, numbers_text, shown_text, sites_text, strip_lines, text_of, text_picture, unmet_line, unmets_text};
 ghost use Rattle.journal_picture.specs.Faults.{fault_line_of};
+ghost use Rattle.journal_picture.specs.TextPicture.{band_count, band_text, bands_text, deed, deed_lines, doer, entries_line, hart_name, idle_line, idle_words, lanes_text, mark_text, numbers_line, requesting, shown_text, sites_text, strip_lines, text_of, text_picture, unmet_line, word_of};
+ghost use Rattle.journal_picture.specs.Texts.{Adds};
+ghost use Rattle.journal_picture.specs.Views.{view_of};
 
-use crate::drawn::{before, board_after};
+use crate::drawing::Drawing;
+use crate::drawn::before;
 use crate::faults::fault_line_of;
 use crate::harts::write_harts_text;
 use crate::lanes::{Lane, lanes_of};
 use crate::shape::Shape;
 use crate::strip::{Figures, strip_of};
-use crate::travels::{Travels, travels_of};
-use crate::tree::write_tree;
-use crate::visits::{Visits, visits_of};
-use crate::words::{site_name, write_cell, write_name};
+use crate::tree::{write_number, write_tree};
+use crate::words::{Written, site_name, write_cell, write_name};
 use std::alloc::{AllocError, Global};
-use transfer_table::{Board, Entry, Fault, Plan, first_fault};
+use transfer_table::{Entry, Fault, Plan, first_fault};
 
 /// The picture of the list in text, up to its first fault, with the tree of the sites. At its end stand the words of the fault, if
 /// there is one, and the verdict. The sites have these shapes. The list has at most 65,535 entries. Which sites are meant to be entered is a truth value for each, that of site `s` at
@@ -41,8 +42,21 @@ pub fn text_picture(
 {
     let fault = first_fault(alloc, plan, meant, list)?;
     let ending = ending_of(alloc, plan, list, fault, verdict)?;
-    let drawn = before(fault, list);
-    text_of(alloc, plan, shapes, drawn, fault.is_some(), &ending)
+    let drawing = Drawing::new(alloc, plan, shapes, before(fault, list))?;
+    text_of(&drawing, fault.is_some(), &ending)
+}
+
+// The picture, at whose end there is a fault or none, and these lines.
+fn text_of(drawing: &Drawing, faulty: bool, ending: &[u8]) -> Result<Vec<u8>, AllocError>
+    requires { length drawing.now.shapes.now ≡ site_count drawing.now.board.plan }
+    ensures { IfOk result
+        (λ text. text.items ≡ text_of (view_of drawing.now) faulty ending.now) }
+{
+    let mut text = String::new(drawing.alloc);
+    write_shown(&mut text, drawing, faulty)?;
+    let mut bytes = text.into_bytes();
+    bytes.extend_from_slice(ending)?;
+    Ok(bytes)
 }
 
 // The lines of the fault and of the verdict.
@@ -61,57 +75,16 @@ fn ending_of(
     Ok(ending)
 }
 
-// The picture of these entries, at whose end there is a fault or none.
-fn text_of(
-    alloc: Global,
-    plan: &Plan,
-    shapes: &[Shape],
-    list: &[Entry],
-    faulty: bool,
-    ending: &[u8],
-) -> Result<Vec<u8>, AllocError>
-    requires few { length list.now ≤ most_entries }
-    requires shapes { length shapes.now ≡ site_count plan.now }
-    ensures { IfOk result
-        (λ text. text.items ≡ text_of plan.now shapes.now list.now faulty ending.now) }
-{
-    let lanes = lanes_of(alloc, plan, list)?;
-    let strip = strip_of(alloc, plan, list)?;
-    let visits = visits_of(alloc, plan, list)?;
-    let travels = travels_of(alloc, plan, list)?;
-    let board = board_after(alloc, plan, list)?;
-    let mut text = String::new(alloc);
-    write_shown(
-        alloc, &mut text, &board, shapes, list, &lanes, &strip, &visits, &travels, faulty,
-    )?;
-    let mut bytes = text.into_bytes();
-    bytes.extend_from_slice(ending)?;
-    Ok(bytes)
-}
-
 // Adds the bands, the tree, the table of harts and the legend.
-fn write_shown(
-    alloc: Global,
-    text: &mut String,
-    board: &Board,
-    shapes: &[Shape],
-    list: &[Entry],
-    lanes: &[Lane],
-    strip: &[Figures],
-    visits: &[Visits],
-    travels: &[Travels],
-    faulty: bool,
-) -> Result<(), AllocError>
-    requires few { length list.now ≤ most_entries }
-    requires shapes { length shapes.now ≡ site_count board.now.plan }
-    requires visits { length visits.now ≡ site_count board.now.plan }
-    ensures { OnOk result (string_bytes text.new ≡ string_bytes text.old
-        ++ shown_text board.now.plan board.now.state shapes.now list.now lanes.now strip.now
-        visits.now travels.now faulty) }
+fn write_shown(text: &mut String, drawing: &Drawing, faulty: bool) -> Written
+    requires { length drawing.now.shapes.now ≡ site_count drawing.now.board.plan }
+    ensures { OnOk result (Adds text.old (shown_text (view_of drawing.now) faulty) text.new) }
 {
-    write_bands(alloc, text, list, lanes, strip, faulty)?;
-    write_tree(alloc, text, board, visits, shapes)?;
-    write_harts_text(alloc, text, travels)?;
+    let lanes = lanes_of(drawing.alloc, drawing.plan(), drawing.list)?;
+    let strip = strip_of(drawing.alloc, drawing.plan(), drawing.list)?;
+    write_bands(text, drawing, &lanes, &strip, faulty)?;
+    write_tree(text, drawing)?;
+    write_harts_text(text, drawing.alloc, &drawing.travels)?;
     text.push_str(
         "\nreg registers a site, req requests harts, unreg unregisters the site\nunm unmet wishes, idl idle harts, ! a child of the base has an unmet wish while a hart is idle\nof sites: req requested harts, met and unmet wishes, guest most guests at once, made entries inside\nof harts: made entries, stays with those in the base, sites visited, each once\n",
     )
@@ -119,20 +92,18 @@ fn write_shown(
 
 // Adds all bands.
 fn write_bands(
-    alloc: Global,
     text: &mut String,
-    list: &[Entry],
+    drawing: &Drawing,
     lanes: &[Lane],
     strip: &[Figures],
     faulty: bool,
-) -> Result<(), AllocError>
-    requires few { length list.now ≤ most_entries }
-    ensures { OnOk result (string_bytes text.new ≡ string_bytes text.old
-        ++ bands_text faulty list.now lanes.now strip.now 0 (band_count (length list.now))) }
+) -> Written
+    ensures { OnOk result (Adds text.old (bands_text faulty drawing.now.list.now lanes.now
+        strip.now 0 (band_count (length drawing.now.list.now))) text.new) }
 {
-    let count = band_count(list.len());
+    let count = band_count(drawing.list.len());
     for band in 0..count {
-        write_band(alloc, text, list, lanes, strip, faulty, 14 * band)?;
+        write_band(text, drawing, lanes, strip, faulty, 14 * band)?;
     }
     Ok(())
 }
@@ -148,108 +119,94 @@ fn band_count(entries: usize) -> usize
 
 // Adds the band of the entry at a place and those that follow.
 fn write_band(
-    alloc: Global,
     text: &mut String,
-    list: &[Entry],
+    drawing: &Drawing,
     lanes: &[Lane],
     strip: &[Figures],
     faulty: bool,
     at: usize,
-) -> Result<(), AllocError>
+) -> Written
     requires few { at ≤ 1000000 }
-    ensures { OnOk result (string_bytes text.new ≡ string_bytes text.old
-        ++ band_text faulty list.now lanes.now strip.now at) }
+    ensures { OnOk result (Adds text.old
+        (band_text faulty drawing.now.list.now lanes.now strip.now at) text.new) }
 {
-    let shown = window(list, at, 14);
-    let last = list.len() <= at + 14;
-    write_numbers_line(alloc, text, faulty, last, at, shown)?;
-    write_deed_lines(alloc, text, shown)?;
-    write_lanes(alloc, text, at, lanes)?;
-    write_strip_lines(alloc, text, at, strip)
+    let shown = window(drawing.list, at, 14);
+    let marked = faulty && drawing.list.len() <= at + 14;
+    write_numbers_line(text, drawing.alloc, marked, at, shown)?;
+    write_deed_lines(text, drawing.alloc, shown)?;
+    write_lanes(text, drawing.alloc, at, lanes)?;
+    write_strip_lines(text, drawing.alloc, window(strip, at, 15))
 }
 
 // Adds the lines of what the entries do, whose they are, and of which site.
-fn write_deed_lines(alloc: Global, text: &mut String, shown: &[Entry]) -> Result<(), AllocError>
-    ensures { OnOk result (string_bytes text.new ≡ string_bytes text.old ++ deed_lines shown.now) }
+fn write_deed_lines(text: &mut String, alloc: Global, shown: &[Entry]) -> Written
+    ensures { OnOk result (Adds text.old (deed_lines shown.now) text.new) }
 {
-    write_deeds_line(text, shown)?;
-    write_doers_line(alloc, text, shown)?;
-    write_at_sites_line(alloc, text, shown)
+    write_entries_line(text, alloc, Line::Deeds, shown)?;
+    write_entries_line(text, alloc, Line::Doers, shown)?;
+    write_entries_line(text, alloc, Line::Sites, shown)
 }
 
-// Adds the line of whose the entries are.
-fn write_doers_line(alloc: Global, text: &mut String, shown: &[Entry]) -> Result<(), AllocError>
-    ensures { OnOk result (string_bytes text.new ≡ string_bytes text.old ++ doers_line shown.now) }
+// What a line of a band has about each entry.
+#[derive(Clone, Copy)]
+enum Line {
+    Deeds,
+    Doers,
+    Sites,
+}
+
+// Adds a line about the entries, with a cell for each.
+fn write_entries_line(text: &mut String, alloc: Global, line: Line, shown: &[Entry]) -> Written
+    ensures { OnOk result (Adds text.old (entries_line line shown.now) text.new) }
 {
     text.push_str("         ")?;
-    write_doers(alloc, text, shown)?;
+    for entry in shown {
+        let word = word_of(alloc, line, *entry)?;
+        write_cell(text, word.as_str())?;
+    }
     text.push_str("\n")
 }
 
-// Adds the line of the sites that the entries are of.
-fn write_at_sites_line(alloc: Global, text: &mut String, shown: &[Entry]) -> Result<(), AllocError>
-    ensures { OnOk result (string_bytes text.new ≡ string_bytes text.old
-        ++ at_sites_line shown.now) }
+// What an entry does, whose it is, or of which site.
+fn word_of(alloc: Global, line: Line, entry: Entry) -> Result<String, AllocError>
+    ensures { IfOk result (λ word. string_bytes word ≡ word_of line entry) }
 {
-    text.push_str("         ")?;
-    write_at_sites(alloc, text, shown)?;
-    text.push_str("\n")
+    match line {
+        Line::Deeds => String::from_str(alloc, deed(entry)),
+        Line::Doers => doer(alloc, entry),
+        Line::Sites => site_name(alloc, site_of(entry)),
+    }
 }
 
 // Adds the lines of the strip, and an empty one.
-fn write_strip_lines(
-    alloc: Global,
-    text: &mut String,
-    at: usize,
-    strip: &[Figures],
-) -> Result<(), AllocError>
-    ensures { OnOk result (string_bytes text.new ≡ string_bytes text.old
-        ++ strip_lines (take 15 (drop at strip.now))) }
+fn write_strip_lines(text: &mut String, alloc: Global, shown: &[Figures]) -> Written
+    ensures { OnOk result (Adds text.old (strip_lines shown.now) text.new) }
 {
-    let shown = window(strip, at, 15);
-    write_unmet_line(alloc, text, shown)?;
-    write_idle_line(alloc, text, shown)
+    write_unmet_line(text, alloc, shown)?;
+    write_idle_line(text, alloc, shown)
 }
 
-// Adds the line of the unmet wishes.
-fn write_unmet_line(alloc: Global, text: &mut String, shown: &[Figures]) -> Result<(), AllocError>
-    ensures { OnOk result (string_bytes text.new ≡ string_bytes text.old ++ unmet_line shown.now) }
+// Adds the line of how many wishes are unmet at each place.
+fn write_unmet_line(text: &mut String, alloc: Global, shown: &[Figures]) -> Written
+    ensures { OnOk result (Adds text.old (unmet_line shown.now) text.new) }
 {
     text.push_str("unm")?;
-    write_unmets(alloc, text, shown)?;
+    for figures in shown {
+        write_number(text, alloc, figures.unmet)?;
+    }
     text.push_str("\n")
 }
 
-// Adds the line of the idle harts, and an empty one.
-fn write_idle_line(alloc: Global, text: &mut String, shown: &[Figures]) -> Result<(), AllocError>
-    ensures { OnOk result (string_bytes text.new ≡ string_bytes text.old ++ idle_line shown.now) }
+// Adds the line of how many harts are idle at each place, and an empty one.
+fn write_idle_line(text: &mut String, alloc: Global, shown: &[Figures]) -> Written
+    ensures { OnOk result (Adds text.old (idle_line shown.now) text.new) }
 {
     text.push_str("idl")?;
-    write_idles(alloc, text, shown)?;
-    text.push_str("\n\n")
-}
-
-// Adds how many wishes are unmet at each place.
-fn write_unmets(alloc: Global, text: &mut String, shown: &[Figures]) -> Result<(), AllocError>
-    ensures { OnOk result (string_bytes text.new ≡ string_bytes text.old ++ unmets_text shown.now) }
-{
-    for figures in shown {
-        let unmet = figures.unmet;
-        let unmet = format!(in alloc; "{unmet}")?;
-        write_cell(text, unmet.as_str())?;
-    }
-    Ok(())
-}
-
-// Adds how many harts are idle at each place.
-fn write_idles(alloc: Global, text: &mut String, shown: &[Figures]) -> Result<(), AllocError>
-    ensures { OnOk result (string_bytes text.new ≡ string_bytes text.old ++ idles_text shown.now) }
-{
     for figures in shown {
         let idle = idle_words(alloc, *figures)?;
         write_cell(text, idle.as_str())?;
     }
-    Ok(())
+    text.push_str("\n\n")
 }
 
 // How many harts are idle at a place, with a mark where a lender missed a wish.
@@ -264,32 +221,23 @@ fn idle_words(alloc: Global, figures: Figures) -> Result<String, AllocError>
     }
 }
 
-// Adds the line of the entries' numbers.
+// Adds the line of the entries' numbers, with the mark of a fault or without.
 fn write_numbers_line(
-    alloc: Global,
     text: &mut String,
-    faulty: bool,
-    last: bool,
+    alloc: Global,
+    marked: bool,
     at: usize,
     shown: &[Entry],
-) -> Result<(), AllocError>
+) -> Written
     requires few { at ≤ 1000000 }
     requires shown { length shown.now ≤ 14 }
-    ensures { OnOk result (string_bytes text.new ≡ string_bytes text.old
-        ++ numbers_line faulty last at shown.now) }
+    ensures { OnOk result (Adds text.old (numbers_line marked at shown.now) text.new) }
 {
     text.push_str("    entry")?;
-    write_numbers(alloc, text, at, shown)?;
-    write_mark(text, faulty, last)?;
-    text.push_str("\n")
-}
-
-// Adds the line of what the entries do.
-fn write_deeds_line(text: &mut String, shown: &[Entry]) -> Result<(), AllocError>
-    ensures { OnOk result (string_bytes text.new ≡ string_bytes text.old ++ deeds_line shown.now) }
-{
-    text.push_str("         ")?;
-    write_deeds(text, shown)?;
+    for i in 0..shown.len() {
+        write_number(text, alloc, (at + i) as u32)?;
+    }
+    write_mark(text, marked)?;
     text.push_str("\n")
 }
 
@@ -309,58 +257,15 @@ fn window<T>(items: &[T], at: usize, most: usize) -> &[T]
     }
 }
 
-// Adds the numbers of the entries, the first of which has this one.
-fn write_numbers(
-    alloc: Global,
-    text: &mut String,
-    at: usize,
-    shown: &[Entry],
-) -> Result<(), AllocError>
-    requires few { at ≤ 1000000 }
-    requires shown { length shown.now ≤ 14 }
-    ensures { OnOk result (string_bytes text.new ≡ string_bytes text.old ++ numbers_text at shown.now) }
+// Adds the mark of a fault, if there is one.
+fn write_mark(text: &mut String, marked: bool) -> Written
+    ensures { OnOk result (Adds text.old (mark_text marked) text.new) }
 {
-    for i in 0..shown.len() {
-        let number = at + i;
-        let number = format!(in alloc; "{number}")?;
-        write_cell(text, number.as_str())?;
-    }
-    Ok(())
-}
-
-// Adds the mark of a fault, if there is one, behind the last entry.
-fn write_mark(text: &mut String, faulty: bool, last: bool) -> Result<(), AllocError>
-    ensures { OnOk result (string_bytes text.new ≡ string_bytes text.old ++ mark_text faulty last) }
-{
-    if !faulty {
-        return Ok(());
-    }
-    if last {
+    if marked {
         write_cell(text, "fault")
     } else {
         Ok(())
     }
-}
-
-// Adds what the entries do.
-fn write_deeds(text: &mut String, shown: &[Entry]) -> Result<(), AllocError>
-    ensures { OnOk result (string_bytes text.new ≡ string_bytes text.old ++ deeds_text shown.now) }
-{
-    for entry in shown {
-        write_cell(text, deed(*entry))?;
-    }
-    Ok(())
-}
-
-// Adds the hart of each entry, and how many harts the entry requests.
-fn write_doers(alloc: Global, text: &mut String, shown: &[Entry]) -> Result<(), AllocError>
-    ensures { OnOk result (string_bytes text.new ≡ string_bytes text.old ++ doers_text shown.now) }
-{
-    for entry in shown {
-        let name = doer(alloc, *entry)?;
-        write_cell(text, name.as_str())?;
-    }
-    Ok(())
 }
 
 // The hart of an entry, and how many harts the entry requests.
@@ -382,18 +287,6 @@ fn requesting(alloc: Global, hart: u8, count: u8) -> Result<String, AllocError>
     ensures { IfOk result (λ name. string_bytes name ≡ requesting hart count) }
 {
     format!(in alloc; "h{hart}+{count}")
-}
-
-// Adds the sites that the entries are of.
-fn write_at_sites(alloc: Global, text: &mut String, shown: &[Entry]) -> Result<(), AllocError>
-    ensures { OnOk result (string_bytes text.new ≡ string_bytes text.old
-        ++ at_sites_text shown.now) }
-{
-    for entry in shown {
-        let name = site_name(alloc, site_of(*entry))?;
-        write_cell(text, name.as_str())?;
-    }
-    Ok(())
 }
 
 /// The hart that makes the entry.
@@ -439,33 +332,28 @@ pub(crate) fn deed(entry: Entry) -> &'static str
 }
 
 // Adds the lines of the harts.
-fn write_lanes(
-    alloc: Global,
-    text: &mut String,
-    at: usize,
-    lanes: &[Lane],
-) -> Result<(), AllocError>
-    ensures { OnOk result (string_bytes text.new ≡ string_bytes text.old ++ lanes_text at 0 lanes.now) }
+fn write_lanes(text: &mut String, alloc: Global, at: usize, lanes: &[Lane]) -> Written
+    ensures { OnOk result (Adds text.old (lanes_text at 0 lanes.now) text.new) }
 {
     for (hart, lane) in lanes.iter().enumerate() {
-        write_hart(alloc, text, hart)?;
-        write_sites(alloc, text, window(lane.sites(), at, 15))?;
+        write_hart(text, alloc, hart)?;
+        write_sites(text, alloc, window(lane.sites(), at, 15))?;
         text.push_str("\n")?;
     }
     Ok(())
 }
 
 // Adds the name of a hart.
-fn write_hart(alloc: Global, text: &mut String, hart: usize) -> Result<(), AllocError>
-    ensures { OnOk result (string_bytes text.new ≡ string_bytes text.old ++ hart_name hart) }
+fn write_hart(text: &mut String, alloc: Global, hart: usize) -> Written
+    ensures { OnOk result (Adds text.old (hart_name hart) text.new) }
 {
     let name = format!(in alloc; "h{hart}")?;
     write_name(text, name.as_str())
 }
 
 // Adds the names of sites.
-fn write_sites(alloc: Global, text: &mut String, sites: &[u16]) -> Result<(), AllocError>
-    ensures { OnOk result (string_bytes text.new ≡ string_bytes text.old ++ sites_text sites.now) }
+fn write_sites(text: &mut String, alloc: Global, sites: &[u16]) -> Written
+    ensures { OnOk result (Adds text.old (sites_text sites.now) text.new) }
 {
     for site in sites {
         let name = site_name(alloc, *site)?;

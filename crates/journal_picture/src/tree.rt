@@ -1,118 +1,98 @@
 //! The tree of the sites in text, with their numbers.
-ghost use Rattle.std.specs.Prelude.{◌≡◌, ◌++◌, ◌≤◌, OnOk, length, string_bytes};
+ghost use Rattle.std.specs.Prelude.{◌≡◌, ◌≤◌, OnOk, length};
 ghost use Rattle.std.specs.Fmt.{decimal};
 ghost use Rattle.transfer_table.specs.Plan.{IsSite, site_count};
 ghost use Rattle.transfer_table.specs.Table.{row};
 ghost use Rattle.journal_picture.specs.TextPicture.{cell, depth_of, fate_text, home_text, site_line, site_lines, site_start, tree_text, visit_cells, wish_cells};
+ghost use Rattle.journal_picture.specs.Texts.{Adds};
+ghost use Rattle.journal_picture.specs.Views.{view_of};
 ghost use Rattle.journal_picture.specs.Visits.{visits_at};
 
+use crate::drawing::Drawing;
 use crate::shape::{Shape, kind_name};
 use crate::visits::Visits;
-use crate::words::{write_blanks, write_cell};
-use std::alloc::{AllocError, Global};
-use transfer_table::{Board, Plan, Stage};
+use crate::words::{Written, write_blanks, write_cell};
+use std::alloc::Global;
+use transfer_table::{Plan, Stage};
 
 /// Adds the names of the numbers with the base, and a line for each site.
-pub(crate) fn write_tree(
-    alloc: Global,
-    text: &mut String,
-    board: &Board,
-    visits: &[Visits],
-    shapes: &[Shape],
-) -> Result<(), AllocError>
-    requires shapes { length shapes.now ≡ site_count board.now.plan }
-    requires visits { length visits.now ≡ site_count board.now.plan }
-    ensures { OnOk result (string_bytes text.new ≡ string_bytes text.old
-        ++ tree_text board.now.plan board.now.state visits.now shapes.now) }
+pub(crate) fn write_tree(text: &mut String, drawing: &Drawing) -> Written
+    requires { length drawing.now.shapes.now ≡ site_count drawing.now.board.plan }
+    ensures { OnOk result (Adds text.old (tree_text (view_of drawing.now)) text.new) }
 {
     text.push_str("   req   met unmet guest  made  base\n")?;
-    write_sites(alloc, text, board, visits, shapes)
+    write_sites(text, drawing)
 }
 
 // Adds a line for each site.
-fn write_sites(
-    alloc: Global,
-    text: &mut String,
-    board: &Board,
-    visits: &[Visits],
-    shapes: &[Shape],
-) -> Result<(), AllocError>
-    requires shapes { length shapes.now ≡ site_count board.now.plan }
-    requires visits { length visits.now ≡ site_count board.now.plan }
-    ensures { OnOk result (string_bytes text.new ≡ string_bytes text.old
-        ++ site_lines board.now.plan board.now.state visits.now 1 shapes.now) }
+fn write_sites(text: &mut String, drawing: &Drawing) -> Written
+    requires { length drawing.now.shapes.now ≡ site_count drawing.now.board.plan }
+    ensures { OnOk result (Adds text.old
+        (site_lines (view_of drawing.now) 1 drawing.now.shapes.now) text.new) }
 {
-    let _sites = board.plan().sites();
-    for (i, shape) in shapes.iter().enumerate() {
-        write_site(alloc, text, board, visits, i as u16 + 1, *shape)?;
+    let _sites = drawing.plan().sites();
+    for (i, shape) in drawing.shapes.iter().enumerate() {
+        write_site(text, drawing, i as u16 + 1, *shape)?;
     }
     Ok(())
 }
 
 // Adds the line of a site.
-fn write_site(
-    alloc: Global,
-    text: &mut String,
-    board: &Board,
-    visits: &[Visits],
-    site: u16,
-    shape: Shape,
-) -> Result<(), AllocError>
-    requires site { IsSite board.now.plan site }
-    requires visits { length visits.now ≡ site_count board.now.plan }
-    ensures { OnOk result (string_bytes text.new ≡ string_bytes text.old
-        ++ site_line (depth_of board.now.plan site) site shape (row board.now.state site)
-        (visits_at visits.now site)) }
+fn write_site(text: &mut String, drawing: &Drawing, site: u16, shape: Shape) -> Written
+    requires { IsSite drawing.now.board.plan site }
+    ensures { OnOk result (Adds text.old (site_line (view_of drawing.now) site shape) text.new) }
 {
-    write_wishes(alloc, text, board.asked(site), board.wishes(site))?;
-    write_visits(alloc, text, visits[site as usize - 1])?;
-    write_start(alloc, text, depth_of(board.plan(), site), site, shape)?;
-    write_fate(text, board.stage(site), board.home(site))?;
+    write_wishes(text, drawing, site)?;
+    write_visits(text, drawing.alloc, visits_at(drawing, site))?;
+    write_start(text, drawing, site, shape)?;
+    write_fate(text, drawing.board.stage(site), drawing.board.home(site))?;
     text.push_str("\n")
 }
 
-// Adds how many harts a site requested, and how many of the wishes were met and weren't.
-fn write_wishes(alloc: Global, text: &mut String, asked: u8, wishes: u8) -> Result<(), AllocError>
-    ensures { OnOk result (string_bytes text.new ≡ string_bytes text.old
-        ++ wish_cells asked wishes) }
+// The numbers of a site.
+fn visits_at(drawing: &Drawing, site: u16) -> Visits
+    requires { IsSite drawing.now.board.plan site }
+    ensures { result ≡ visits_at drawing.now.visits.items site }
 {
-    write_number(alloc, text, u32::from(asked))?;
-    write_number(alloc, text, u32::from(asked.saturating_sub(wishes)))?;
-    write_number(alloc, text, u32::from(wishes))
+    drawing.visits[site as usize - 1]
+}
+
+// Adds how many harts a site requested, and how many of the wishes were met and weren't.
+fn write_wishes(text: &mut String, drawing: &Drawing, site: u16) -> Written
+    requires { IsSite drawing.now.board.plan site }
+    ensures { OnOk result (Adds text.old (wish_cells (row drawing.now.board.state site)) text.new) }
+{
+    let (alloc, wishes) = (drawing.alloc, drawing.board.wishes(site));
+    let asked = drawing.board.asked(site);
+    write_number(text, alloc, u32::from(asked))?;
+    write_number(text, alloc, u32::from(asked.saturating_sub(wishes)))?;
+    write_number(text, alloc, u32::from(wishes))
 }
 
 // Adds the most guests of a site at once, and how many entries harts made in it.
-fn write_visits(alloc: Global, text: &mut String, visits: Visits) -> Result<(), AllocError>
-    ensures { OnOk result (string_bytes text.new ≡ string_bytes text.old ++ visit_cells visits) }
+fn write_visits(text: &mut String, alloc: Global, visits: Visits) -> Written
+    ensures { OnOk result (Adds text.old (visit_cells visits) text.new) }
 {
-    write_number(alloc, text, u32::from(visits.guests))?;
-    write_number(alloc, text, visits.entries)?;
+    write_number(text, alloc, u32::from(visits.guests))?;
+    write_number(text, alloc, visits.entries)?;
     text.push_str("  ")
 }
 
 /// Adds a number in a cell.
-pub(crate) fn write_number(alloc: Global, text: &mut String, number: u32) -> Result<(), AllocError>
-    ensures { OnOk result (string_bytes text.new ≡ string_bytes text.old
-        ++ cell (decimal number)) }
+pub(crate) fn write_number(text: &mut String, alloc: Global, number: u32) -> Written
+    ensures { OnOk result (Adds text.old (cell (decimal number)) text.new) }
 {
     let words = format!(in alloc; "{number}")?;
     write_cell(text, words.as_str())
 }
 
 // Adds the name of a site, what it is and where it stands.
-fn write_start(
-    alloc: Global,
-    text: &mut String,
-    depth: u16,
-    site: u16,
-    shape: Shape,
-) -> Result<(), AllocError>
-    ensures { OnOk result (string_bytes text.new ≡ string_bytes text.old ++ site_start depth site shape) }
+fn write_start(text: &mut String, drawing: &Drawing, site: u16, shape: Shape) -> Written
+    ensures { OnOk result (Adds text.old (site_start (view_of drawing.now) site shape) text.new) }
 {
-    let name = kind_name(alloc, shape.kind)?;
-    let kind = name.as_str();
-    let line = shape.line;
-    write_blanks(text, 2 * depth as usize)?;
+    let name = kind_name(drawing.alloc, shape.kind)?;
+    let (kind, line) = (name.as_str(), shape.line);
+    write_blanks(text, 2 * depth_of(drawing.plan(), site) as usize)?;
     write!(text, "s{site} {kind}, line {line}")
 }
 
@@ -133,12 +113,8 @@ pub(crate) fn depth_of(plan: &Plan, site: u16) -> u16
 }
 
 /// Adds what became of a site.
-pub(crate) fn write_fate(
-    text: &mut String,
-    stage: Stage,
-    home: Option<u8>,
-) -> Result<(), AllocError>
-    ensures { OnOk result (string_bytes text.new ≡ string_bytes text.old ++ fate_text stage home) }
+pub(crate) fn write_fate(text: &mut String, stage: Stage, home: Option<u8>) -> Written
+    ensures { OnOk result (Adds text.old (fate_text stage home) text.new) }
 {
     match stage {
         Stage::New => text.push_str(", not entered"),
@@ -151,8 +127,8 @@ pub(crate) fn write_fate(
 }
 
 // Adds the home of a site, or that it was skipped.
-fn write_home(text: &mut String, home: Option<u8>) -> Result<(), AllocError>
-    ensures { OnOk result (string_bytes text.new ≡ string_bytes text.old ++ home_text home) }
+fn write_home(text: &mut String, home: Option<u8>) -> Written
+    ensures { OnOk result (Adds text.old (home_text home) text.new) }
 {
     match home {
         None => text.push_str(", skipped"),

@@ -8,7 +8,7 @@ use Rattle.journal_picture.proofs.axis.write_harts.Goals as goal
 pub loop-hart-preserved : goal.loop-hart-preserved
 loop-hart-preserved c =
     let top = c.args.top in
-    let n = c.args.plan.now.harts in
+    let n = c.args.drawing.now.board.plan.harts in
     let i = c.loop-hart.hart in
     let within : i < n = search rules in
     let wrote : string_bytes c.write_hart_at.new.text ≡ string_bytes c.loop-hart.text ++ hart_at (lane_y top i + 34) i = search rules in

@@ -7,7 +7,7 @@ use Rattle.journal_picture.proofs.text.write_bands.Goals as goal
 pub loop-band-preserved : goal.loop-band-preserved
 loop-band-preserved c =
     let faulty = c.args.faulty in
-    let es = c.args.list.now in
+    let es = c.args.drawing.now.list.now in
     let lanes = c.args.lanes.now in
     let strip = c.args.strip.now in
     let n = c.band_count-count.result in

@@ -5,4 +5,5 @@ use Rattle.journal_picture.proofs.text.write_bands.Given as goal
 -- The text so far, and the other bands.
 abbrev pub invariant-loop-band : goal.invariant-loop-band
 invariant-loop-band l =
-    string_bytes l.text ++ bands_text l.faulty l.list l.lanes l.strip l.band (l.count - l.band) ≡ string_bytes l.fn.text ++ bands_text l.faulty l.list l.lanes l.strip 0 (band_count (length l.list))
+    string_bytes l.text ++ bands_text l.faulty l.drawing.list.now l.lanes l.strip l.band (l.count - l.band)
+    ≡ string_bytes l.fn.text ++ bands_text l.faulty l.drawing.list.now l.lanes l.strip 0 (band_count (length l.drawing.list.now))

@@ -1,15 +1,24 @@
-use Rattle.std.proofs.Common.{◌≡◌, ◌++◌, OnOk, string_bytes, rules}
+use Rattle.std.proofs.Common.{◌≡◌, ◌∙◌, ◌++◌, ◌≤◌, [], List, ℕ, length, drop, string_bytes, ap, refl, sym, rules}
+use Rattle.std.proofs.lemmas.List.{append-nil, drop_all}
+use Rattle.std.specs.Fmt.{decimal}
+use Rattle.std.specs.List.{flat_map}
 use Rattle.std.specs.Prelude.{codes}
-use Rattle.journal_picture.specs.TextPicture.{unmets_text}
-use Rattle.journal_picture.proofs.Written.{on_three}
+use Rattle.journal_picture.specs.declared.strip.Figures.{Figures}
+use Rattle.journal_picture.specs.TextPicture.{cell}
+use Rattle.journal_picture.proofs.Written.{on_pushed, on_three}
 use Rattle.journal_picture.proofs.text.write_unmet_line.Goals as goal
 
 pub returns : goal.returns
 returns c =
+    let es = c.args.shown.now in
+    let i = c.loop-figures.figures-index in
     let old = string_bytes c.args.text.now in
-    let first = string_bytes c.push_str.new.self in
-    let second = string_bytes c.write_unmets.new.text in
+    let head = codes "unm" in
+    let cells = flat_map (λ (f : Figures). cell (decimal f.unmet)) in
+    let second = string_bytes c.loop-figures.text in
     let third = string_bytes c.push_str-2.new.self in
-    let head : first ≡ old ++ codes "unm" = search rules in
-    let line : OnOk c.push_str-2.result (third ≡ second ++ codes "\n") = search rules in
-    on_three c.push_str-2.result old first second third (codes "unm") (unmets_text c.args.shown.now) (codes "\n") head c.in_ok-write_unmets.ensures line
+    let past : length es ≤ i = search rules in
+    let none : cells (drop i es) ≡ [] = ap (λ (x : List Figures). cells x) (drop_all i es past) in
+    let written : second ≡ (old ++ head) ++ cells es = sym (append-nil second) ∙ ap (λ (x : List ℕ). second ++ x) (sym none) ∙ c.loop-figures.invariant in
+    on_three c.push_str-2.result old (old ++ head) second third head (cells es) (codes "\n") refl written
+    (on_pushed c.push_str-2.result third second (codes "\n") c.push_str-2.ensures.bytes)
