@@ -70,6 +70,7 @@ fn picture(alloc: Global, wanted: Wanted, first: &[u8], second: &[u8]) -> Result
 }
 
 // The picture of an output of the program, by the rules of the command.
+#[tactic(auto, using(crate::proofs::Refusing::check_no_picture, crate::proofs::Refusing::tally_no_picture, crate::proofs::Refusing::rows_no_picture, crate::proofs::Refusing::unpiped_no_picture))]
 fn picture_by(
     alloc: Global,
     wanted: Wanted,
@@ -85,88 +86,37 @@ fn picture_by(
     ensures fault { IfErr result
         (ReportsNoPicture wanted.runner wanted.harts (program_of program.now) output.now) }
 {
-    match wanted.runner {
-        Runner::Run => of_run(alloc, wanted.form, wanted.harts, program, output),
-        Runner::Tally => of_tally(alloc, wanted.form, wanted.harts, program, output),
-        Runner::Pipe => of_pipe(alloc, wanted.form, wanted.harts, program, output),
+    let Wanted {
+        form,
+        runner,
+        harts,
+    } = wanted;
+    match runner {
+        Runner::Run => {
+            let accepted = checked(alloc, program, harts)?;
+            by_plan(alloc, form, Kind::TEAM, program, accepted.plan(), output)
+        }
+        Runner::Tally => {
+            let rows = with_rows(alloc, harts, program)?;
+            let accepted = checked(alloc, &rows, harts)?;
+            // Why of this plan: the program with rows has the plan of the given one.
+            by_plan(alloc, form, Kind::TEAM, program, accepted.plan(), output)
+        }
+        Runner::Pipe => {
+            let accepted = checked(alloc, program, harts)?;
+            if let Err(fault) = pipe_check(alloc, &accepted) {
+                return Err(crossing_fault(alloc, program, fault));
+            }
+            by_plan(alloc, form, Kind::PIPE, program, accepted.plan(), output)
+        }
     }
 }
 
-// The picture of an output of `run`.
-#[tactic(auto, using(crate::proofs::Refusing::check_no_picture))]
-fn of_run(
-    alloc: Global,
-    form: Form,
-    harts: u8,
-    program: &Program,
-    output: &[u8],
-) -> Result<Picture, Fault>
-    requires short { length output.now ≤ most_audited }
-    requires some_hart { 1 ≤ harts }
-    requires few_harts { harts ≤ 16 }
-    ensures runs { OnOk result (IsRunBy Runner.Run harts (program_of program.now)) }
-    ensures drawn { IfOk result (λ picture. picture_of form (teams_of Runner.Run)
-        (program_of program.now) (table_plan (program_of program.now) harts) output.now ≡ Ok (picture_seen picture)) }
-    ensures fault { IfErr result
-        (ReportsNoPicture Runner.Run harts (program_of program.now) output.now) }
-{
-    let accepted = checked(alloc, program, harts)?;
-    by_plan(alloc, form, Runner::Run, program, accepted.plan(), output)
-}
-
-// The picture of an output of `tally`: the program with rows has the plan of the given one.
-#[tactic(auto, using(crate::proofs::Refusing::tally_no_picture, crate::proofs::Refusing::rows_no_picture))]
-fn of_tally(
-    alloc: Global,
-    form: Form,
-    harts: u8,
-    program: &Program,
-    output: &[u8],
-) -> Result<Picture, Fault>
-    requires short { length output.now ≤ most_audited }
-    requires some_hart { 1 ≤ harts }
-    requires few_harts { harts ≤ 16 }
-    ensures runs { OnOk result (IsRunBy Runner.Tally harts (program_of program.now)) }
-    ensures drawn { IfOk result (λ picture. picture_of form (teams_of Runner.Tally)
-        (program_of program.now) (table_plan (program_of program.now) harts) output.now ≡ Ok (picture_seen picture)) }
-    ensures fault { IfErr result
-        (ReportsNoPicture Runner.Tally harts (program_of program.now) output.now) }
-{
-    let rows = with_rows(alloc, harts, program)?;
-    let accepted = checked(alloc, &rows, harts)?;
-    by_plan(alloc, form, Runner::Tally, program, accepted.plan(), output)
-}
-
-// The picture of an output of `pipe`.
-#[tactic(auto, using(crate::proofs::Refusing::unpiped_no_picture))]
-fn of_pipe(
-    alloc: Global,
-    form: Form,
-    harts: u8,
-    program: &Program,
-    output: &[u8],
-) -> Result<Picture, Fault>
-    requires short { length output.now ≤ most_audited }
-    requires some_hart { 1 ≤ harts }
-    requires few_harts { harts ≤ 16 }
-    ensures runs { OnOk result (IsRunBy Runner.Pipe harts (program_of program.now)) }
-    ensures drawn { IfOk result (λ picture. picture_of form (teams_of Runner.Pipe)
-        (program_of program.now) (table_plan (program_of program.now) harts) output.now ≡ Ok (picture_seen picture)) }
-    ensures fault { IfErr result
-        (ReportsNoPicture Runner.Pipe harts (program_of program.now) output.now) }
-{
-    let accepted = checked(alloc, program, harts)?;
-    if let Err(fault) = pipe_check(alloc, &accepted) {
-        return Err(crossing_fault(alloc, program, fault));
-    }
-    by_plan(alloc, form, Runner::Pipe, program, accepted.plan(), output)
-}
-
-// The picture by the program's plan, of an output of this command.
+// The picture by the program's plan, with schedulers of this kind for its teams.
 fn by_plan(
     alloc: Global,
     form: Form,
-    runner: Runner,
+    teams: Kind,
     program: &Program,
     plan: &Plan,
     output: &[u8],
@@ -174,22 +124,12 @@ fn by_plan(
     requires short { length output.now ≤ most_audited }
     requires sized { AreSized (arrays_of (declarations_of program.now.arrays)) }
     requires parents { plan.now.parents ≡ plan_of (program_of program.now) }
-    ensures drawn { IfOk result (λ picture. picture_of form (teams_of runner)
+    ensures drawn { IfOk result (λ picture. picture_of form teams
         (program_of program.now) plan.now output.now ≡ Ok (picture_seen picture)) }
     ensures fault { IfErr result (ReportsNoOutput plan.now (program_of program.now) output.now) }
 {
-    match picture_of(alloc, form, teams_of(runner), program, plan, output) {
+    match picture_of(alloc, form, teams, program, plan, output) {
         Ok(picture) => Ok(picture),
         Err(fault) => Err(text_fault(alloc, fault)),
-    }
-}
-
-// The kind of the schedulers of teams.
-fn teams_of(runner: Runner) -> Kind
-    ensures { result ≡ teams_of runner }
-{
-    match runner {
-        Runner::Run | Runner::Tally => Kind::TEAM,
-        Runner::Pipe => Kind::PIPE,
     }
 }

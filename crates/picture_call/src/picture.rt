@@ -11,7 +11,7 @@ ghost use Rattle.journal_text.specs.Reading.{lines_of};
 ghost use Rattle.journal_text.specs.Seen.{Reads};
 ghost use Rattle.run_audit.specs.Audit.{audit_of};
 ghost use Rattle.run_audit.specs.Parts.{most_audited};
-ghost use Rattle.picture_call.specs.Picture.{behind, drawn_in, entries_behind, journal_behind, picture_by, picture_of, pictured};
+ghost use Rattle.picture_call.specs.Picture.{behind, entries_behind, journal_behind, picture_by, picture_of, pictured};
 ghost use Rattle.picture_call.specs.Seen.{picture_seen};
 
 use crate::shapes::shapes_of;
@@ -202,29 +202,10 @@ fn pictured(
     ensures { IfOk result (λ picture.
         picture_seen picture ≡ pictured form plan.now meant.now shapes.now verdict list.now) }
 {
-    let reported = verdict_line(alloc, verdict)?;
-    let text = drawn_in(alloc, form, plan, meant, shapes, list, &reported)?;
+    let line = verdict_line(alloc, verdict)?;
+    let text = match form {
+        Form::Text => text_picture(alloc, plan, meant, shapes, list, &line)?,
+        Form::Svg => svg_picture(alloc, plan, meant, shapes, list, &line)?,
+    };
     Ok(Picture { verdict, text })
-}
-
-// The list as a picture of this form.
-fn drawn_in(
-    alloc: Global,
-    form: Form,
-    plan: &Plan,
-    meant: &[bool],
-    shapes: &[Shape],
-    list: &[Entry],
-    reported: &[u8],
-) -> Result<Vec<u8>, AllocError>
-    requires few { length list.now ≤ most_entries }
-    requires meant { length meant.now ≡ site_count plan.now }
-    requires shapes { length shapes.now ≡ site_count plan.now }
-    ensures { IfOk result
-        (λ text. text.items ≡ drawn_in form plan.now meant.now shapes.now list.now reported.now) }
-{
-    match form {
-        Form::Text => text_picture(alloc, plan, meant, shapes, list, reported),
-        Form::Svg => svg_picture(alloc, plan, meant, shapes, list, reported),
-    }
 }
