@@ -104,8 +104,8 @@ module _ {P S : Type 0} (seen : P → PortView) where
   rows_stay (x ∷ xs) [] same = absurd same
   rows_stay (x ∷ xs) (y ∷ ys) same = λ i. (same.0.1 i).rows ∷ rows_stay xs ys same.1 i
 
-  pub claims_stay : (xs ys : List (Hart P S)) → AreTheSame seen xs ys → map (λ hart. hart.sites.hart_local.seat) ys ≡ map (λ hart. hart.sites.hart_local.seat) xs
-  claims_stay [] [] same = refl
-  claims_stay [] (y ∷ ys) same = absurd same
-  claims_stay (x ∷ xs) [] same = absurd same
-  claims_stay (x ∷ xs) (y ∷ ys) same = λ i. (same.0.1 i).seat ∷ claims_stay xs ys same.1 i
+  pub seats_stay : (xs ys : List (Hart P S)) → AreTheSame seen xs ys → map (λ hart. hart.sites.hart_local.seat) ys ≡ map (λ hart. hart.sites.hart_local.seat) xs
+  seats_stay [] [] same = refl
+  seats_stay [] (y ∷ ys) same = absurd same
+  seats_stay (x ∷ xs) [] same = absurd same
+  seats_stay (x ∷ xs) (y ∷ ys) same = λ i. (same.0.1 i).seat ∷ seats_stay xs ys same.1 i

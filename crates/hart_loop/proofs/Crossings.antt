@@ -10,7 +10,7 @@ use Rattle.base_sched.specs.contracts.shared.SharedBase as SharedBase
 use Rattle.base_sched.proofs.shared.SharedBase.TheSendSync as BaseCrosses
 use Rattle.shared_sites.specs.contracts.shared_site.SharedSite as SharedSite
 use Rattle.loop_team.proofs.Crossings.{job_send}
-use Rattle.shared_sites.proofs.Crossings.{line_send}
+use Rattle.shared_sites.proofs.Crossings.{view_send}
 use Rattle.shared_sites.proofs.hart_local.HartLocal.TheSendSync as HartLocalCrosses
 use Rattle.hart_loop.specs.contracts.harts.HartSites as HartSites
 use Rattle.hart_loop.specs.contracts.hart.Hart as Hart
@@ -22,7 +22,7 @@ piece_send : (p : NamedLft) → IsSend (Piece.the_row p)
 piece_send p = let job = job_send p in search (crosses, sendable) depth 60 fits 20000
 
 sites_send : (a p s : NamedLft) → IsSend (HartSites.the_row a p (SharedSite.the_row s))
-sites_send a p s = let line = line_send a s in let hart_local = HartLocalCrosses.the_send a in search (crosses, sendable) depth 20
+sites_send a p s = let view = view_send a s in let hart_local = HartLocalCrosses.the_send a in search (crosses, sendable) depth 20
 
 -- Each type of a hart has lifetimes of its own.
 pub hart_send : (a p s : NamedLft) (P : RattleType) → IsSend P → IsSend (Hart.the_row a p P (SharedSite.the_row s))

@@ -4,7 +4,7 @@ use Rattle.array_jobs.specs.Jobs.{JobParts}
 use Rattle.step_eval.specs.Nests.{NestedParts}
 use Rattle.hart_work.specs.Accounts.{Account}
 use Rattle.hart_work.specs.Sites.{SiteFacts}
-use Rattle.shared_sites.specs.Places.{site_at}
+use Rattle.shared_sites.specs.References.{site_at}
 use Rattle.shared_sites.specs.declared.shared_site.SharedSite.{SharedSite}
 use Rattle.hart_loop.specs.Openings.{IsOpened, kept_in}
 use Rattle.hart_loop.specs.declared.hart_site.HartSite.{HartSite}

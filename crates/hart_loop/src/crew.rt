@@ -10,7 +10,7 @@ ghost use Rattle.hart_loop.specs.Harts.{AllStart, AreSame, HaveRun, AreTheSame};
 
 use crate::hart::{Hart, work};
 use crate::harts::HartSites;
-use crate::members::TeamMode;
+use crate::team_mode::TeamMode;
 use array_jobs::{Job, Piece, body_job};
 use base_sched::{Base, SharedBase};
 use deque_rows::laws::settle;
@@ -20,7 +20,7 @@ use hart_work::Run;
 use loop_team::ClaimSeat;
 use loop_team::laws::claimed;
 use once_cell::race::OnceBox;
-use shared_sites::{Claims, SharedSite, cells, hart_locals_of, lines};
+use shared_sites::{Claims, SharedSite, cells, hart_locals_of, site_cells};
 use site_steps::PatientPort;
 use std::alloc::{AllocError, Global};
 use std::sync::Wait;
@@ -30,7 +30,7 @@ use std::thread::Threads;
 /// Runs an accepted program on harts that move by these ports, one for each hart of the plan, and settles the accounts of what
 /// the harts were lent. Blocks until all harts are back.
 ///
-/// `members` chooses whether the members of each `team` wait for one another. The result is the piece of the program's body,
+/// `team_mode` chooses whether the members of each `team` wait for one another. The result is the piece of the program's body,
 /// and each port comes back as the same hart's.
 ///
 /// # Errors
@@ -48,7 +48,7 @@ pub fn run_ports<
 >(
     run: Run<'_, R, F>,
     accepted: &Accepted<'p>,
-    members: TeamMode,
+    team_mode: TeamMode,
     ports: Vec<P>,
 ) -> Result<(Piece<'p>, Vec<P>), AllocError>
     requires callable { F.IsAlwaysCallable run.pass.now }
@@ -58,20 +58,16 @@ pub fn run_ports<
         (λ back. job_of back.0.job ≡ body_of (program_of accepted.now.program)) }
     ensures same { IfOk result (λ back. AreSame P.seen ports.items back.1.items) }
 {
-    let (words, crew_parts) = lend(run.alloc, accepted, ports)?;
+    let (claims, crew_parts) = lend(run.alloc, accepted, ports)?;
     let sites = run.tree.plan().sites();
     let base = SharedBase::new(Base::new(run.alloc, sites)?);
     let cells = cells(run.alloc, sites)?;
     let job = body_job(run.alloc, accepted.program())?;
-    let mut harts = crew(run.alloc, members, &words, crew_parts, &base, &cells)?;
+    let mut harts = crew(run.alloc, team_mode, &claims, crew_parts, &base, &cells)?;
     let piece = run_all(run, harts.as_mut_slice(), job);
     let crew_parts = crew_parts_of(run.alloc, harts)?;
-    let CrewParts {
-        ports,
-        rows,
-        claims,
-    } = crew_parts;
-    settle_all(words, rows, claims);
+    let CrewParts { ports, rows, seats } = crew_parts;
+    settle_all(claims, rows, seats);
     match piece {
         Some(piece) => Ok((piece, ports)),
         None => Err(AllocError),
@@ -86,7 +82,7 @@ struct CrewParts<P> {
     /// Their access to the deques.
     rows: Vec<HartRows>,
     /// Their seats of the claim table.
-    claims: Vec<ClaimSeat>,
+    seats: Vec<ClaimSeat>,
 }
 
 // The hart-local states of a run, for the harts of these ports, and the claim table. Why this room: a deque has room for the job indices of
@@ -98,56 +94,48 @@ fn lend<P: Drop>(
 ) -> Result<(Claims, CrewParts<P>), AllocError>
     ensures ports { IfOk result (λ t. t.1.ports ≡ ports) }
     ensures rows { IfOk result (λ t. vec_len t.1.rows ≡ accepted.now.plan.harts) }
-    ensures claims { IfOk result (λ t. vec_len t.1.claims ≡ accepted.now.plan.harts) }
-    ensures hart_local { IfOk result (λ t. AreHartLocals t.0.table t.1.rows.items t.1.claims.items) }
+    ensures seats { IfOk result (λ t. vec_len t.1.seats ≡ accepted.now.plan.harts) }
+    ensures hart_local { IfOk result (λ t. AreHartLocals t.0.table t.1.rows.items t.1.seats.items) }
     ensures some { 0 < accepted.now.plan.harts }
 {
     let harts = accepted.plan().harts();
-    let (words, claims) = Claims::new(alloc, accepted, harts)?;
+    let (claims, seats) = Claims::new(alloc, accepted, harts)?;
     let rows = rows_for(alloc, harts, accepted.pieces().clamp(1, ROOM))?;
-    let crew_parts = CrewParts {
-        ports,
-        rows,
-        claims,
-    };
-    Ok((words, crew_parts))
+    let crew_parts = CrewParts { ports, rows, seats };
+    Ok((claims, crew_parts))
 }
 
 // Settles the accounts of deques and claims.
-fn settle_all(words: Claims, rows: Vec<HartRows>, claims: Vec<ClaimSeat>)
-    requires { AreHartLocals words.table rows.items claims.items }
+fn settle_all(claims: Claims, rows: Vec<HartRows>, seats: Vec<ClaimSeat>)
+    requires { AreHartLocals claims.table rows.items seats.items }
 {
     settle(rows);
-    claimed(words.into_table(), claims);
+    claimed(claims.into_table(), seats);
 }
 
 // A hart for each port, in the base and with no job.
 fn crew<'x, 'p: 'x, P: Drop>(
     alloc: Global,
-    members: TeamMode,
-    words: &'x Claims,
+    team_mode: TeamMode,
+    claims: &'x Claims,
     crew_parts: CrewParts<P>,
     base: &'x SharedBase,
     cells: &'x [OnceBox<SharedSite<'p>>],
 ) -> Result<Vec<Hart<'x, 'p, P, SharedSite<'p>>>, AllocError>
     requires rows { vec_len crew_parts.rows ≡ vec_len crew_parts.ports }
-    requires claims { vec_len crew_parts.claims ≡ vec_len crew_parts.ports }
-    requires hart_local { AreHartLocals words.now.table crew_parts.rows.items crew_parts.claims.items }
+    requires seats { vec_len crew_parts.seats ≡ vec_len crew_parts.ports }
+    requires hart_local { AreHartLocals claims.now.table crew_parts.rows.items crew_parts.seats.items }
     ensures ports { IfOk result
         (λ harts. map (λ hart. hart.port) harts.items ≡ crew_parts.ports.items) }
     ensures rows { IfOk result
         (λ harts. map (λ hart. hart.sites.hart_local.rows) harts.items
         ≡ map rows_identity crew_parts.rows.items) }
-    ensures claims { IfOk result
+    ensures seats { IfOk result
         (λ harts. map (λ hart. hart.sites.hart_local.seat) harts.items
-        ≡ map seat_identity crew_parts.claims.items) }
+        ≡ map seat_identity crew_parts.seats.items) }
 {
-    let CrewParts {
-        ports,
-        rows,
-        claims,
-    } = crew_parts;
-    let mut hart_local = hart_locals_of(alloc, words, rows, claims)?;
+    let CrewParts { ports, rows, seats } = crew_parts;
+    let mut hart_local = hart_locals_of(alloc, claims, rows, seats)?;
     let mut harts = Vec::with_capacity(alloc, ports.len())?;
     for port in ports {
         let Some(own) = hart_local.pop() else {
@@ -155,7 +143,7 @@ fn crew<'x, 'p: 'x, P: Drop>(
         };
         harts.push(Hart {
             port,
-            sites: HartSites::new(lines(alloc, cells)?, own, members),
+            sites: HartSites::new(site_cells(alloc, cells)?, own, team_mode),
             base,
             job: None,
             piece: None,
@@ -204,21 +192,21 @@ fn crew_parts_of<'x, 'p: 'x, P: Drop>(
     ensures rows { IfOk result
         (λ crew_parts. map rows_identity crew_parts.rows.items
         ≡ map (λ hart. hart.sites.hart_local.rows) harts.entry.items) }
-    ensures claims { IfOk result
-        (λ crew_parts. map seat_identity crew_parts.claims.items
+    ensures seats { IfOk result
+        (λ crew_parts. map seat_identity crew_parts.seats.items
         ≡ map (λ hart. hart.sites.hart_local.seat) harts.entry.items) }
 {
     let mut crew_parts = CrewParts {
         ports: Vec::with_capacity(alloc, harts.len())?,
         rows: Vec::with_capacity(alloc, harts.len())?,
-        claims: Vec::with_capacity(alloc, harts.len())?,
+        seats: Vec::with_capacity(alloc, harts.len())?,
     };
     for hart in harts {
         let (port, hart_local) = hart.into_parts();
         let (rows, seat) = hart_local.into_parts();
         crew_parts.ports.push(port)?;
         crew_parts.rows.push(rows)?;
-        crew_parts.claims.push(seat)?;
+        crew_parts.seats.push(seat)?;
     }
     Ok(crew_parts)
 }

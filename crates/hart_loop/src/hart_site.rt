@@ -1,14 +1,14 @@
 //! One site, as one of several harts has it.
 ghost use Rattle.std.specs.Prelude.{◌≡◌, IfOk, IsSome, IfSome, Some, option_map};
 ghost use Rattle.step_eval.specs.Nests.{NestedParts, nested_of, nested_writes};
-ghost use Rattle.shared_sites.specs.Places.{Fits, site_at};
+ghost use Rattle.shared_sites.specs.References.{Fits, site_at};
 ghost use Rattle.shared_sites.specs.Completed.{IsCompleted};
 ghost use Rattle.hart_loop.specs.Facts.{number_in};
 ghost use Rattle.hart_loop.specs.Openings.{IsOpened, kept_in};
 
 use crate::in_directory::InDirectory;
-use crate::members::TeamMode;
 use crate::opened::{publish, shared_site, written_by};
+use crate::team_mode::TeamMode;
 use array_eval::Overlay;
 use base_sched::SharedBase;
 use crossbeam_utils::Backoff;
@@ -95,9 +95,9 @@ impl<'a, 'p, S: InDirectory<'p>> HartSite<'a, 'p, S> {
     /// Makes a scheduler for the construct, and publishes it for all harts, unless there is no room for its pieces.
     pub(crate) fn open(
         alloc: Global,
-        lines: &mut [SiteCell<'a, S>],
+        site_cells: &mut [SiteCell<'a, S>],
         hart_local: &HartLocal<'_>,
-        members: TeamMode,
+        team_mode: TeamMode,
         nested: &Nested<'p>,
     ) -> Result<HartSite<'a, 'p, S>, AllocError>
         ensures opened { IfOk result (λ site. site.opened ≡ Some nested.now) }
@@ -105,10 +105,10 @@ impl<'a, 'p, S: InDirectory<'p>> HartSite<'a, 'p, S> {
     {
         let level = hart_local.level(nested.site);
         let own = nested.copy()?;
-        let shared = shared_site(alloc, hart_local.hart(), members, nested)?;
+        let shared = shared_site(alloc, hart_local.hart(), team_mode, nested)?;
         let shared = Box::new(alloc, S::put(shared))?;
         let placement = if hart_local.has_room(level, nested) {
-            publish(lines, nested.site, shared)
+            publish(site_cells, nested.site, shared)
         } else {
             Placement::Kept(shared)
         };

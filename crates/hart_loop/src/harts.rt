@@ -4,7 +4,7 @@ ghost use Rattle.hart_loop.specs.Facts.{hart_facts};
 
 use crate::hart_site::{HartSite, ref_in};
 use crate::in_directory::InDirectory;
-use crate::members::TeamMode;
+use crate::team_mode::TeamMode;
 use crate::turns::take_turn;
 use array_eval::Overlay;
 use array_jobs::{Job, Piece};
@@ -22,25 +22,25 @@ use step_eval::Nested;
 /// their results.
 #[derive(Drop)]
 pub struct HartSites<'a, 'p, S> {
-    lines: Vec<SiteCell<'a, S>>,
+    site_cells: Vec<SiteCell<'a, S>>,
     hart_local: HartLocal<'a>,
-    members: TeamMode,
+    team_mode: TeamMode,
     of: PhantomData<&'p Block>,
 }
 
 impl<'a, 'p, S> HartSites<'a, 'p, S> {
-    /// The schedulers of a hart, by its lines to the cells of all sites, its hart-local state, and the way in which members go on.
+    /// The schedulers of a hart, by its views of the cells of all sites, its hart-local state, and the way in which members go on.
     pub fn new(
-        lines: Vec<SiteCell<'a, S>>,
+        site_cells: Vec<SiteCell<'a, S>>,
         hart_local: HartLocal<'a>,
-        members: TeamMode,
+        team_mode: TeamMode,
     ) -> HartSites<'a, 'p, S>
         ensures { result.hart_local ≡ hart_local.entry }
     {
         HartSites {
-            lines,
+            site_cells,
             hart_local,
-            members,
+            team_mode,
             of: PhantomData,
         }
     }
@@ -50,9 +50,9 @@ impl<'a, 'p, S> HartSites<'a, 'p, S> {
         ensures { result ≡ self.entry.hart_local }
     {
         let HartSites {
-            lines: _,
+            site_cells: _,
             hart_local,
-            members: _,
+            team_mode: _,
             of: _,
         } = self;
         hart_local
@@ -84,9 +84,9 @@ impl<'a, 'p, S: InDirectory<'p>, R: Wait> Sites<R, JobMachines<'p>> for HartSite
     ) -> Result<HartSite<'a, 'p, S>, AllocError> {
         HartSite::open(
             alloc,
-            self.lines.as_mut_slice(),
+            self.site_cells.as_mut_slice(),
             &self.hart_local,
-            self.members,
+            self.team_mode,
             nested,
         )
     }
@@ -97,8 +97,8 @@ impl<'a, 'p, S: InDirectory<'p>, R: Wait> Sites<R, JobMachines<'p>> for HartSite
 
     /// Blocks until the site is in the directory. `None` if the directory has the scheduler of another site there.
     fn find(&mut self, rt: &R, number: u16) -> Option<HartSite<'a, 'p, S>> {
-        let line = self.lines.get_mut(usize::from(number))?;
-        let shared = line.until_found(rt);
+        let cell = self.site_cells.get_mut(usize::from(number))?;
+        let shared = cell.until_found(rt);
         if shared.shared().site() != number {
             return None;
         }

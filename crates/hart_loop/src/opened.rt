@@ -12,7 +12,7 @@ ghost use Rattle.shared_sites.specs.Completed.{IsCompleted};
 ghost use Rattle.hart_loop.specs.Openings.{IsMadeOf, IsSharedPoolOf, kept_in};
 
 use crate::hart_site::Placement;
-use crate::members::TeamMode;
+use crate::team_mode::TeamMode;
 use array_eval::Overlay;
 use forkjoin_sched::{Pool, SharedPool};
 use lone_hart::{open_pool, open_team, room_for_wishes, take_from_pool};
@@ -27,7 +27,7 @@ use step_eval::{Kind, Nested, compute};
 pub(crate) fn shared_site<'p>(
     alloc: Global,
     home: u8,
-    members: TeamMode,
+    team_mode: TeamMode,
     nested: &Nested<'p>,
 ) -> Result<SharedSite<'p>, AllocError>
     ensures { IfOk result (λ shared. IsMadeOf nested.now shared) }
@@ -37,7 +37,7 @@ pub(crate) fn shared_site<'p>(
             let pool = SharedPool::new(alloc, open_pool(alloc, nested)?)?;
             Ok(SharedSite::Pool { home, pool })
         }
-        Kind::Team => match members {
+        Kind::Team => match team_mode {
             TeamMode::Wait => {
                 let team = SharedTeam::new(alloc, open_team(alloc, nested.copy()?)?)?;
                 Ok(SharedSite::Team(team))
@@ -65,16 +65,16 @@ fn shared_pipe<'p>(alloc: Global, nested: &Nested<'p>) -> Result<SharedSite<'p>,
 
 /// Puts a scheduler into the cell of its site.
 pub(crate) fn publish<'a, S: Drop>(
-    lines: &mut [SiteCell<'a, S>],
+    site_cells: &mut [SiteCell<'a, S>],
     site: u16,
     shared: Box<S>,
 ) -> Placement<'a, S>
     ensures { kept_in result ≡ Some shared.value }
 {
-    let Some(line) = lines.get_mut(usize::from(site)) else {
+    let Some(cell) = site_cells.get_mut(usize::from(site)) else {
         return Placement::Kept(shared);
     };
-    match line.publish(shared) {
+    match cell.publish(shared) {
         Ok(published) => Placement::Published(published),
         Err(back) => Placement::Kept(back),
     }

@@ -8,10 +8,9 @@ ghost use Rattle.transfer_table.specs.Journal.{IsComplete};
 ghost use Rattle.hart_loop.specs.Journals.{IsOfKind};
 ghost use Rattle.hart_loop.specs.Outcomes.{IsOutcome};
 
-use crate::members::TeamMode;
-use crate::on_board::on_board;
-use crate::on_plain_port::on_plain_port;
+use crate::on_ports::{on_board, on_plain_port};
 use crate::outcome::{Journal, Outcome};
+use crate::team_mode::TeamMode;
 use disjoint_check::Accepted;
 use entered_sites::entered_by;
 use hart_work::Run;
@@ -87,7 +86,7 @@ fn run_tested<R: Threads + Wait + Sync, G: Gate>(
     rt: &R,
     alloc: Global,
     accepted: &Accepted<'_>,
-    members: TeamMode,
+    team_mode: TeamMode,
     gate: &G,
 ) -> Result<Outcome, AllocError>
     ensures outcome { IfOk result (IsOutcome accepted.now) }
@@ -104,13 +103,13 @@ fn run_tested<R: Threads + Wait + Sync, G: Gate>(
     let harts = accepted.plan().harts();
     for _ in rt.forever() {
         let (store, journal) = if harts == 1 {
-            let (store, entries) = on_plain_port(run, accepted, members)?;
+            let (store, entries) = on_plain_port(run, accepted, team_mode)?;
             (store, Journal::Listed(entries))
         } else if harts <= MOST_ON_WORDS {
-            let (store, closed) = on_board(run, accepted, members)?;
+            let (store, closed) = on_board(run, accepted, team_mode)?;
             (store, Journal::Board(closed))
         } else {
-            let (store, closed) = on_board(run, accepted, members)?;
+            let (store, closed) = on_board(run, accepted, team_mode)?;
             (store, Journal::Wide(closed))
         };
         if is_complete(alloc, accepted, journal.entries())? {

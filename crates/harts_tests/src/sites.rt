@@ -17,7 +17,7 @@ use sample_programs::{
     BOTH_BRANCHES, BOTH_PHASES, TWO_BRANCHES, TWO_PHASES, first_construct, parsed,
 };
 use sched_api::Next;
-use shared_sites::{Claims, HartLocal, SharedSite, cells, hart_locals_of, lines};
+use shared_sites::{Claims, HartLocal, SharedSite, cells, hart_locals_of, site_cells};
 use std::alloc::Global;
 use std::sync::Wait;
 use std::test::Fail;
@@ -26,13 +26,13 @@ use step_eval::Nested;
 // The hart-local states of two harts, in their order.
 fn two_hart_locals<'x>(
     alloc: Global,
-    words: &'x Claims,
-    claims: Vec<ClaimSeat>,
+    claims: &'x Claims,
+    seats: Vec<ClaimSeat>,
 ) -> Result<(HartLocal<'x>, HartLocal<'x>), Fail>
-    requires count { vec_len claims ≡ 2 }
-    requires all { AreAll words.now.table (map identity claims.items) }
+    requires count { vec_len seats ≡ 2 }
+    requires all { AreAll claims.now.table (map identity seats.items) }
 {
-    let mut hart_local = hart_locals_of(alloc, words, rows(alloc, 2)?, claims)?;
+    let mut hart_local = hart_locals_of(alloc, claims, rows(alloc, 2)?, seats)?;
     match (hart_local.pop(), hart_local.pop()) {
         (Some(first), Some(second)) => Ok((first, second)),
         _ => Err(Fail::new("no hart-local state is left")),
@@ -85,7 +85,7 @@ fn by_the_home<'a, 'p, R: Wait, S: InDirectory<'p>>(
     hart_local: HartLocal<'a>,
 ) -> Result<Overlay, Fail> {
     let nested = first_construct(alloc, program)?;
-    let mut home = HartSites::new(lines(alloc, cells)?, hart_local, TeamMode::Wait);
+    let mut home = HartSites::new(site_cells(alloc, cells)?, hart_local, TeamMode::Wait);
     let mut site = Sites::<R, JobMachines<'p>>::open(&mut home, alloc, &nested)?;
     home.offer(rt, &site);
     let first = does_a_piece(rt, alloc, &mut home, &mut site);
@@ -106,8 +106,8 @@ fn are_both(written: &Overlay) -> bool {
 // Whether a home that does all pieces writes the cells of both branches.
 fn writes_both<R: Wait>(rt: &R, alloc: Global, program: &Program) -> Result<bool, Fail> {
     let cells = cells::<SharedSite<'_>>(alloc, 1)?;
-    let (words, claims) = Claims::new(alloc, &check(alloc, program, 2)?, 2)?;
-    let (hart_local, _) = two_hart_locals(alloc, &words, claims)?;
+    let (claims, seats) = Claims::new(alloc, &check(alloc, program, 2)?, 2)?;
+    let (hart_local, _) = two_hart_locals(alloc, &claims, seats)?;
     let written = by_the_home(rt, alloc, program, cells.as_slice(), hart_local)?;
     Ok(are_both(&written))
 }
@@ -136,7 +136,7 @@ fn does_one<'a, 'p, R: Wait, S: InDirectory<'p>>(
     matches!(guest.next(rt, found), Next::Nothing)
 }
 
-// The same for a guest that finds the site by its lines.
+// The same for a guest that finds the site by its views of the cells.
 fn helps<'a, 'p, R: Wait, S: InDirectory<'p>>(
     rt: &'a R,
     alloc: Global,
@@ -196,16 +196,16 @@ fn by_two<'a, 'p, R: Wait, S: InDirectory<'p>>(
     hart_local: (HartLocal<'a>, HartLocal<'a>),
 ) -> Result<Overlay, Fail> {
     let (first, second) = hart_local;
-    let mut home = HartSites::new(lines(alloc, cells)?, first, TeamMode::Wait);
-    let mut guest = HartSites::new(lines(alloc, cells)?, second, TeamMode::Wait);
+    let mut home = HartSites::new(site_cells(alloc, cells)?, first, TeamMode::Wait);
+    let mut guest = HartSites::new(site_cells(alloc, cells)?, second, TeamMode::Wait);
     with_a_guest(rt, alloc, nested, &mut home, &mut guest)
 }
 
 // Whether both branches are written if a guest does one.
 fn shares_both<R: Wait>(rt: &R, alloc: Global, program: &Program) -> Result<bool, Fail> {
     let cells = cells::<SharedSite<'_>>(alloc, 1)?;
-    let (words, claims) = Claims::new(alloc, &check(alloc, program, 2)?, 2)?;
-    let hart_local = two_hart_locals(alloc, &words, claims)?;
+    let (claims, seats) = Claims::new(alloc, &check(alloc, program, 2)?, 2)?;
+    let hart_local = two_hart_locals(alloc, &claims, seats)?;
     let nested = first_construct(alloc, program)?;
     let written = by_two(rt, alloc, &nested, cells.as_slice(), hart_local)?;
     Ok(are_both(&written))
@@ -226,10 +226,10 @@ fn untouched<'a, 'p, R: Wait, S: InDirectory<'p>>(
     program: &'p Program,
     cells: &'a [OnceBox<S>],
     hart_local: HartLocal<'a>,
-    members: TeamMode,
+    team_mode: TeamMode,
 ) -> Result<(Overlay, u8), Fail> {
     let nested = first_construct(alloc, program)?;
-    let mut home = HartSites::new(lines(alloc, cells)?, hart_local, members);
+    let mut home = HartSites::new(site_cells(alloc, cells)?, hart_local, team_mode);
     let site = Sites::<R, JobMachines<'p>>::open(&mut home, alloc, &nested)?;
     let wishes = Sites::<R, JobMachines<'p>>::wishes(&home, &site);
     Ok((home.take(rt, alloc, site)?, wishes))
@@ -240,14 +240,14 @@ fn takes<R: Wait>(
     rt: &R,
     alloc: Global,
     program: &Program,
-    members: TeamMode,
+    team_mode: TeamMode,
     expected: &[(u16, i64)],
     harts: u8,
 ) -> Result<bool, Fail> {
     let cells = cells::<SharedSite<'_>>(alloc, 1)?;
-    let (words, claims) = Claims::new(alloc, &check(alloc, program, 2)?, 2)?;
-    let (hart_local, _) = two_hart_locals(alloc, &words, claims)?;
-    let (written, wishes) = untouched(rt, alloc, program, cells.as_slice(), hart_local, members)?;
+    let (claims, seats) = Claims::new(alloc, &check(alloc, program, 2)?, 2)?;
+    let (hart_local, _) = two_hart_locals(alloc, &claims, seats)?;
+    let (written, wishes) = untouched(rt, alloc, program, cells.as_slice(), hart_local, team_mode)?;
     Ok(wishes == harts && written.pairs() == expected)
 }
 
@@ -299,8 +299,8 @@ fn a_team_whose_pieces_cross_is_computed_by_its_home(rt: HostRuntime) -> Result<
 // Whether the second of two homes with the same cell requests no hart, and computes its construct.
 fn requests_no_hart<R: Wait>(rt: &R, alloc: Global, program: &Program) -> Result<bool, Fail> {
     let cells = cells::<SharedSite<'_>>(alloc, 1)?;
-    let (words, claims) = Claims::new(alloc, &check(alloc, program, 2)?, 2)?;
-    let (first, second) = two_hart_locals(alloc, &words, claims)?;
+    let (claims, seats) = Claims::new(alloc, &check(alloc, program, 2)?, 2)?;
+    let (first, second) = two_hart_locals(alloc, &claims, seats)?;
     let slice = cells.as_slice();
     let (_, one) = untouched(rt, alloc, program, slice, first, TeamMode::Wait)?;
     let (written, none) = untouched(rt, alloc, program, slice, second, TeamMode::Wait)?;

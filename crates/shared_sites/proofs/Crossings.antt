@@ -44,9 +44,9 @@ module _ (l : NamedLft) where
   pub shared_site_sync : IsSync (SharedSite.the_row l)
   shared_site_sync = let pool = shared_pool_sync in let team = shared_team_sync l in let pipe = shared_pipe_sync l in search (crosses, sendable) depth 60 fits 20000
 
--- A line to a cell moves between threads with what the cell shares.
-pub line_send : (a p : NamedLft) → IsSend (SiteCell.the_row a (SharedSite.the_row p))
-line_send a p =
+-- A view of a cell moves between threads with what the cell shares.
+pub view_send : (a p : NamedLft) → IsSend (SiteCell.the_row a (SharedSite.the_row p))
+view_send a p =
     let sent = shared_site_send p in
     let shared = shared_site_sync p in
     let cell : IsSync (OnceBox.the_row (SharedSite.the_row p)) = OnceBoxCrosses.the_sync (SharedSite.the_row p) sent shared in

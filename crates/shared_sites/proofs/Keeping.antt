@@ -57,10 +57,10 @@ none_to_empty batch none = ap (λ pieces. record batch { pieces = pieces }) none
 -- What was handed over isn't handed over again.
 handed_twice : (scheduler_ref : SchedulerRef) (kept : Option BatchParts)
     → handed_to scheduler_ref (handed_to scheduler_ref kept) ≡ handed_to scheduler_ref kept
-handed_twice (Pool place) None = refl
-handed_twice (Pool place) (Some batch) = refl
+handed_twice (Pool pool) None = refl
+handed_twice (Pool pool) (Some batch) = refl
 handed_twice (Base base) kept = refl
-handed_twice (Team place) kept = refl
+handed_twice (Team team) kept = refl
 handed_twice (Pipe pipe) kept = refl
 handed_twice NoScheduler kept = refl
 

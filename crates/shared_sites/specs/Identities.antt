@@ -10,5 +10,5 @@ pub record HartLocalIdentities : Type 0 where
   pub seat : seats.SeatIdentity
 
 -- The identities of deques and of a seat.
-abbrev pub kins_of : HartRows → ClaimSeat → HartLocalIdentities
-kins_of own seat = record { rows = rows.identity own; seat = seats.identity seat }
+abbrev pub identities_of : HartRows → ClaimSeat → HartLocalIdentities
+identities_of own seat = record { rows = rows.identity own; seat = seats.identity seat }

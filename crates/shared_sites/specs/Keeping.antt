@@ -40,9 +40,9 @@ Keeps pool before piece (Err (OutOfMemory back)) after =
 
 -- The scheduler is a pool, and the piece's job starts from the store of the kept pieces. Pieces of other schedulers aren't kept.
 abbrev pub MayKeep : SchedulerRef → Option BatchParts → PieceParts → Type 0
-MayKeep (Pool place) kept piece = MayKeepIn place.pool.now kept piece
+MayKeep (Pool pool) kept piece = MayKeepIn pool.shared.now kept piece
 MayKeep (Base base) kept piece = ⊥
-MayKeep (Team place) kept piece = ⊥
+MayKeep (Team team) kept piece = ⊥
 MayKeep (Pipe pipe) kept piece = ⊥
 MayKeep NoScheduler kept piece = ⊥
 
@@ -56,9 +56,9 @@ StillKeeps scheduler_ref before piece (Err failed) after = pieces_of after ≡ p
 
 -- The batch after its pieces were handed over to the scheduler: a pool gets all of them, and no other scheduler gets any.
 abbrev pub handed_to : SchedulerRef → Option BatchParts → Option BatchParts
-handed_to (Pool place) kept = option_map emptied kept
+handed_to (Pool pool) kept = option_map emptied kept
 handed_to (Base base) kept = kept
-handed_to (Team place) kept = kept
+handed_to (Team team) kept = kept
 handed_to (Pipe pipe) kept = kept
 handed_to NoScheduler kept = kept
 

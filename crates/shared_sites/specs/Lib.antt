@@ -1,6 +1,6 @@
 pub mod ClaimRows
 pub mod Identities
-pub mod Places
+pub mod References
 pub mod Completed
 pub mod HartLocals
 pub mod Keeping

@@ -126,9 +126,9 @@ fn site_rows(alloc: Global, accepted: &Accepted<'_>) -> Result<(Vec<SiteRows>, V
     let plan = accepted.plan();
     let mut sites: Vec<SiteRows> = Vec::with_capacity(alloc, usize::from(plan.sites()))?;
     let mut counts = Vec::new(alloc);
-    for place in 0..plan.sites() {
-        let level = level_in(&sites, plan.parent(place + 1)).saturating_add(1);
-        let (members, phases) = accepted.shape(place + 1);
+    for index in 0..plan.sites() {
+        let level = level_in(&sites, plan.parent(index + 1)).saturating_add(1);
+        let (members, phases) = accepted.shape(index + 1);
         let first = counts.len() as u16;
         add_rows(&mut counts, members, phases)?;
         sites.push(SiteRows {

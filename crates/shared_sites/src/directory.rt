@@ -27,7 +27,7 @@ impl<'a, S: Drop> SiteCell<'a, S> {
         }
     }
 
-    /// The scheduler in the cell, or `None` if the cell is empty. If this line found a scheduler before, the result is the same
+    /// The scheduler in the cell, or `None` if the cell is empty. If this view found a scheduler before, the result is the same
     /// one, and never `None`.
     pub fn find(&mut self) -> Option<&'a S>
         ensures cell { self.new.note.cell ≡ self.old.note.cell }
@@ -39,7 +39,7 @@ impl<'a, S: Drop> SiteCell<'a, S> {
         self.cell.get_as(&mut self.note)
     }
 
-    /// The scheduler in the cell. Spins with growing pauses until the cell has one. If this line found a scheduler before, the
+    /// The scheduler in the cell. Spins with growing pauses until the cell has one. If this view found a scheduler before, the
     /// result is the same one.
     pub fn until_found<R: Wait>(&mut self, rt: &R) -> &'a S
         ensures cell { self.new.note.cell ≡ self.old.note.cell }
@@ -60,7 +60,7 @@ impl<'a, S: Drop> SiteCell<'a, S> {
     ///
     /// # Errors
     ///
-    /// The scheduler itself if the cell has one. This line then knows the scheduler in the cell.
+    /// The scheduler itself if the cell has one. This view then knows the scheduler in the cell.
     pub fn publish(&mut self, shared: Box<S>) -> Result<&'a S, Box<S>>
         ensures cell { self.new.note.cell ≡ self.old.note.cell }
         ensures gives { MatchResult result (λ published. published.now ≡ shared.value)
@@ -105,17 +105,17 @@ pub fn cells<S: Drop>(alloc: Global, sites: u16) -> Result<Vec<OnceBox<S>>, Allo
 /// # Memory
 ///
 /// It allocates the list.
-pub fn lines<'a, S: Drop>(
+pub fn site_cells<'a, S: Drop>(
     alloc: Global,
     cells: &'a [OnceBox<S>],
 ) -> Result<Vec<SiteCell<'a, S>>, AllocError>
-    ensures count { IfOk result (λ lines. vec_len lines ≡ length cells.now) }
+    ensures count { IfOk result (λ views. vec_len views ≡ length cells.now) }
     ensures order { IfOk result
-        (λ lines. map (λ line. line.note.cell) lines.items ≡ map cell_name cells.now) }
+        (λ views. map (λ view. view.note.cell) views.items ≡ map cell_name cells.now) }
 {
-    let mut lines = Vec::with_capacity(alloc, cells.len())?;
+    let mut views = Vec::with_capacity(alloc, cells.len())?;
     for cell in cells {
-        lines.push(SiteCell::new(cell))?;
+        views.push(SiteCell::new(cell))?;
     }
-    Ok(lines)
+    Ok(views)
 }

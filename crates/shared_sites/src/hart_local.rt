@@ -3,7 +3,7 @@ ghost use Rattle.std.specs.Prelude.{◌≡◌, ◌≤◌, ◌+◌, ◌↔◌, []
 ghost use Rattle.std.specs.Option.{ForSome};
 ghost use Rattle.deque_rows.specs.Rows.{IsLevel, home_log, row_room, identity as rows_identity};
 ghost use Rattle.claim_words.specs.Seats.{IsOf, identity as seat_identity};
-ghost use Rattle.shared_sites.specs.Places.{Fits, PoolFits, TeamFits};
+ghost use Rattle.shared_sites.specs.References.{Fits, PoolFits, TeamFits};
 ghost use Rattle.shared_sites.specs.Completed.{IsCompleted};
 ghost use Rattle.shared_sites.specs.HartLocals.{AreHartLocals};
 ghost use Rattle.shared_sites.specs.Keeping.{handed_to, HandsOver, StillKeeps};
@@ -14,7 +14,7 @@ use crate::claims::Claims;
 use crate::completed::Completed;
 use crate::kept::keep;
 use crate::scheduler_ref::SchedulerRef::{Base, NoScheduler, Pipe, Pool, Team};
-use crate::scheduler_ref::{PoolPlace, SchedulerRef, TeamPlace};
+use crate::scheduler_ref::{PoolRef, SchedulerRef, TeamRef};
 use crate::shared_site::SharedSite;
 use array_jobs::{Job, Piece};
 use base_sched::SharedBaseHand;
@@ -45,11 +45,11 @@ impl<'t> Model for HartLocal<'t> {
     ghost use Rattle.std.specs.Prelude.{◌≡◌};
     ghost use Rattle.claim_words.specs.Seats.{IsOf, identity as seat_identity};
     ghost use Rattle.deque_rows.specs.Rows.{identity as rows_identity};
-    ghost use Rattle.shared_sites.specs.Identities.{HartLocalIdentities, kins_of};
+    ghost use Rattle.shared_sites.specs.Identities.{HartLocalIdentities, identities_of};
 
     ghost Value = { HartLocalIdentities };
 
-    ghost view = { λ t. kins_of t.rows t.seat };
+    ghost view = { λ t. identities_of t.rows t.seat };
 
     ghost invariant = { λ t. IsOf t.claims.now.table (seat_identity t.seat)
         × ((rows_identity t.rows).harts ≡ t.harts) };
@@ -104,33 +104,37 @@ impl<'t> HartLocal<'t> {
     }
 
     /// A pool with its deque, if there is that deque.
-    fn pool_place<'b, 'p>(
+    fn pool_ref<'b, 'p>(
         &self,
         pool: &'b SharedPool<'p>,
         home: u8,
         level: u8,
-    ) -> Option<PoolPlace<'b, 'p>>
-        ensures fits { ForSome result (λ place. PoolFits self.now.rows place) }
-        ensures pool { ForSome result (λ place. place.pool.now ≡ pool.now) }
+    ) -> Option<PoolRef<'b, 'p>>
+        ensures fits { ForSome result (λ found. PoolFits self.now.rows found) }
+        ensures pool { ForSome result (λ found. found.shared.now ≡ pool.now) }
     {
         if is_level(level) && home < self.harts {
-            Some(PoolPlace { pool, home, level })
+            Some(PoolRef {
+                shared: pool,
+                home,
+                level,
+            })
         } else {
             None
         }
     }
 
     /// A team with its claim counters, if the table has exactly those that it needs.
-    fn team_place<'b, 'p>(&self, team: &'b SharedTeam<'p>) -> Option<TeamPlace<'b, 'p>>
+    fn team_ref<'b, 'p>(&self, team: &'b SharedTeam<'p>) -> Option<TeamRef<'b, 'p>>
     where
         't: 'b,
-        ensures fits { ForSome result (λ place. TeamFits self.now.seat place) }
-        ensures team { ForSome result (λ place. place.team.now ≡ team.now) }
+        ensures fits { ForSome result (λ found. TeamFits self.now.seat found) }
+        ensures team { ForSome result (λ found. found.shared.now ≡ team.now) }
     {
         let claims = self.claims;
         let row = claims.row_of(team.nested())?;
-        Some(TeamPlace {
-            team,
+        Some(TeamRef {
+            shared: team,
             claims: &claims.table,
             row,
         })
@@ -147,12 +151,12 @@ impl<'t> HartLocal<'t> {
         ensures { Fits self.now result }
     {
         match shared {
-            SharedSite::Pool { home, pool } => match self.pool_place(pool, *home, level) {
-                Some(place) => Pool(place),
+            SharedSite::Pool { home, pool } => match self.pool_ref(pool, *home, level) {
+                Some(pool) => Pool(pool),
                 None => NoScheduler,
             },
-            SharedSite::Team(team) => match self.team_place(team) {
-                Some(place) => Team(place),
+            SharedSite::Team(team) => match self.team_ref(team) {
+                Some(team) => Team(team),
                 None => NoScheduler,
             },
             SharedSite::Pipe(pipe) => Pipe(pipe),
@@ -175,8 +179,8 @@ impl<'t> HartLocal<'t> {
     {
         match scheduler_ref {
             Base(base) => call_back(&mut SharedBaseHand::new(base), rt, call, child, count),
-            Pool(place) => call_back(&mut place.hand(&mut self.rows), rt, call, child, count),
-            Team(place) => call_back(&mut place.hand(&mut self.seat), rt, call, child, count),
+            Pool(pool) => call_back(&mut pool.hand(&mut self.rows), rt, call, child, count),
+            Team(team) => call_back(&mut team.hand(&mut self.seat), rt, call, child, count),
             Pipe(pipe) => call_back(&mut PipeHand::new(pipe), rt, call, child, count),
             NoScheduler => callback_with(call, child, count),
         }
@@ -238,7 +242,7 @@ impl<'t> HartLocal<'t> {
         ensures any { result ≡ false → kept.new ≡ kept.old }
     {
         match scheduler_ref {
-            Pool(place) => hand_over_in(rt, place, &mut self.rows, kept),
+            Pool(pool) => hand_over_in(rt, pool, &mut self.rows, kept),
             Base(_) | Team(_) | Pipe(_) | NoScheduler => { false }
         }
     }
@@ -257,8 +261,8 @@ impl<'t> HartLocal<'t> {
                 Next::Lend(child) => Next::Lend(child),
                 Next::Run(()) | Next::Nothing => Next::Nothing,
             },
-            Pool(place) => place.hand(&mut self.rows).enter(rt),
-            Team(place) => place.hand(&mut self.seat).enter(rt),
+            Pool(pool) => pool.hand(&mut self.rows).enter(rt),
+            Team(team) => team.hand(&mut self.seat).enter(rt),
             Pipe(pipe) => PipeHand::new(pipe).enter(rt),
             NoScheduler => Next::Nothing,
         }
@@ -277,8 +281,8 @@ impl<'t> HartLocal<'t> {
     {
         match scheduler_ref {
             Base(base) => base.is_shut(),
-            Pool(place) => is_home && place.hand::<R>(&mut self.rows).is_full(rt),
-            Team(place) => is_home && place.hand::<R>(&mut self.seat).is_over(rt),
+            Pool(pool) => is_home && pool.hand::<R>(&mut self.rows).is_full(rt),
+            Team(team) => is_home && team.hand::<R>(&mut self.seat).is_over(rt),
             Pipe(pipe) => is_home && PipeHand::<R>::new(pipe).is_full(rt),
             NoScheduler => true,
         }
@@ -289,8 +293,8 @@ impl<'t> HartLocal<'t> {
         requires { Fits self.old scheduler_ref }
         ensures { self.new ≡ self.old }
     {
-        if let Pool(place) = scheduler_ref {
-            offer_in(rt, place, &mut self.rows);
+        if let Pool(pool) = scheduler_ref {
+            offer_in(rt, pool, &mut self.rows);
         }
     }
 
@@ -314,19 +318,19 @@ impl<'t> HartLocal<'t> {
         ensures kept { StillKeeps scheduler_ref.entry kept.old piece.entry result kept.new }
     {
         match scheduler_ref {
-            Pool(place) => match keep(alloc, place.pool, kept, piece) {
+            Pool(pool) => match keep(alloc, pool.shared, kept, piece) {
                 Ok(()) => Ok(()),
                 Err(NotAdded::OtherStart(piece)) => {
-                    let _ = place.hand::<R>(&mut self.rows).deposit(rt, piece);
+                    let _ = pool.hand::<R>(&mut self.rows).deposit(rt, piece);
                     Ok(())
                 }
                 Err(NotAdded::OutOfMemory(piece)) => {
-                    let _ = place.hand::<R>(&mut self.rows).deposit(rt, piece);
+                    let _ = pool.hand::<R>(&mut self.rows).deposit(rt, piece);
                     Err(AllocError)
                 }
             },
-            Team(place) => {
-                let _ = place.hand::<R>(&mut self.seat).arrive(rt, piece)?;
+            Team(team) => {
+                let _ = team.hand::<R>(&mut self.seat).arrive(rt, piece)?;
                 Ok(())
             }
             Pipe(pipe) => {
@@ -369,8 +373,8 @@ impl<'t> HartLocal<'t> {
     {
         match scheduler_ref {
             Base(_) => false,
-            Pool(place) => place.hand::<R>(&mut self.rows).has_failed(rt),
-            Team(place) => place.hand::<R>(&mut self.seat).has_failed(rt),
+            Pool(pool) => pool.hand::<R>(&mut self.rows).has_failed(rt),
+            Team(team) => team.hand::<R>(&mut self.seat).has_failed(rt),
             Pipe(pipe) => PipeHand::<R>::new(pipe).has_failed(rt),
             NoScheduler => true,
         }
@@ -387,13 +391,13 @@ impl<'t> HartLocal<'t> {
         ensures hart_local { self.new ≡ self.old }
     {
         match scheduler_ref {
-            Pool(place) => {
-                let pool = place.hand::<R>(&mut self.rows).take_out(rt);
-                Some(Completed::Pool(pool?))
+            Pool(pool) => {
+                let taken = pool.hand::<R>(&mut self.rows).take_out(rt);
+                Some(Completed::Pool(taken?))
             }
-            Team(place) => {
-                let team = place.hand::<R>(&mut self.seat).take_out(rt);
-                Some(Completed::Team(team?))
+            Team(team) => {
+                let taken = team.hand::<R>(&mut self.seat).take_out(rt);
+                Some(Completed::Team(taken?))
             }
             Pipe(pipe) => Some(Completed::Pipe(PipeHand::<R>::new(pipe).take_out(rt)?)),
             _ => None,
@@ -420,50 +424,46 @@ fn is_level(level: u8) -> bool
 /// It allocates the list.
 pub fn hart_locals_of<'x>(
     alloc: Global,
-    words: &'x Claims,
+    claims: &'x Claims,
     mut rows: Vec<HartRows>,
-    mut claims: Vec<ClaimSeat>,
+    mut seats: Vec<ClaimSeat>,
 ) -> Result<Vec<HartLocal<'x>>, AllocError>
-    requires count { vec_len claims ≡ vec_len rows }
-    requires hart_local { AreHartLocals words.now.table rows.items claims.items }
+    requires count { vec_len seats ≡ vec_len rows }
+    requires hart_local { AreHartLocals claims.now.table rows.items seats.items }
     ensures rows { IfOk result
         (λ hart_local. map (λ t. t.rows) (reverse hart_local.items) ≡ map rows_identity rows.items) }
     ensures seats { IfOk result
-        (λ hart_local. map (λ t. t.seat) (reverse hart_local.items) ≡ map seat_identity claims.items) }
+        (λ hart_local. map (λ t. t.seat) (reverse hart_local.items) ≡ map seat_identity seats.items) }
 {
     let harts = rows.len() as u8;
     let mut hart_local = Vec::with_capacity(alloc, rows.len())?;
     while let Some(own) = rows.pop() {
-        let Some(seat) = claims.pop() else {
+        let Some(seat) = seats.pop() else {
             unreachable!()
         };
-        hart_local.push(HartLocal::new(own, seat, words, harts))?;
+        hart_local.push(HartLocal::new(own, seat, claims, harts))?;
     }
     Ok(hart_local)
 }
 
 /// Pushes the job indices of the pool onto the deque of this hart, if it is the home and the deque has room for all of them.
-pub(crate) fn offer_in<'b, 'p, R: Wait + 'b>(
-    rt: &'b R,
-    place: PoolPlace<'b, 'p>,
-    rows: &mut HartRows,
-)
-    requires { PoolFits (rows_identity rows.old) place }
+pub(crate) fn offer_in<'b, 'p, R: Wait + 'b>(rt: &'b R, pool: PoolRef<'b, 'p>, rows: &mut HartRows)
+    requires { PoolFits (rows_identity rows.old) pool }
     ensures { rows_identity rows.new ≡ rows_identity rows.old }
 {
-    if place.home == rows.hart() && has_room(rows, place.level, place.pool.jobs().len()) {
-        place.hand(rows).offer(rt);
+    if pool.home == rows.hart() && has_room(rows, pool.level, pool.shared.jobs().len()) {
+        pool.hand(rows).offer(rt);
     }
 }
 
 // Puts all kept pieces into the pool. Returns whether there were any.
 fn hand_over_in<'b, 'p, R: Wait + 'b>(
     rt: &'b R,
-    place: PoolPlace<'b, 'p>,
+    pool: PoolRef<'b, 'p>,
     rows: &mut HartRows,
     kept: &mut Option<PieceBatch<'p>>,
 ) -> bool
-    requires { PoolFits (rows_identity rows.old) place }
+    requires { PoolFits (rows_identity rows.old) pool }
     ensures rows { rows_identity rows.new ≡ rows_identity rows.old }
     ensures kept { kept.new ≡ option_map emptied kept.old }
     ensures any { result ≡ false → kept.new ≡ kept.old }
@@ -472,7 +472,7 @@ fn hand_over_in<'b, 'p, R: Wait + 'b>(
     if batch.is_empty() {
         return false;
     }
-    place.hand(rows).hand_over(rt, batch);
+    pool.hand(rows).hand_over(rt, batch);
     true
 }
 

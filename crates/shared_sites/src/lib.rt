@@ -21,7 +21,7 @@ mod shared_site;
 
 pub use claims::Claims;
 pub use completed::Completed;
-pub use directory::{SiteCell, cells, lines};
+pub use directory::{SiteCell, cells, site_cells};
 pub use hart_local::{HartLocal, hart_locals_of};
-pub use scheduler_ref::{PoolPlace, SchedulerRef, TeamPlace};
+pub use scheduler_ref::{PoolRef, SchedulerRef, TeamRef};
 pub use shared_site::SharedSite;

@@ -1,6 +1,6 @@
 //! What the directory publishes for a site.
 ghost use Rattle.std.specs.Prelude.{◌≡◌};
-ghost use Rattle.shared_sites.specs.Places.{site_at};
+ghost use Rattle.shared_sites.specs.References.{site_at};
 
 use forkjoin_sched::SharedPool;
 use loop_team::SharedTeam;

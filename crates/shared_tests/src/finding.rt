@@ -5,7 +5,7 @@ use array_tree::Program;
 use forkjoin_sched::{Pool, SharedPool};
 use once_cell::race::OnceBox;
 use sample_programs::{TWO_BRANCHES, first_jobs, parsed};
-use shared_sites::{SharedSite, SiteCell, cells, lines};
+use shared_sites::{SharedSite, SiteCell, cells, site_cells};
 use std::alloc::Global;
 use std::test::Fail;
 
@@ -48,8 +48,8 @@ fn is_found<'a, 'p>(
 ) -> Result<bool, Fail>
     requires { length cells.now ≡ 3 }
 {
-    let mut home = lines(alloc, cells)?;
-    let mut guest = lines(alloc, cells)?;
+    let mut home = site_cells(alloc, cells)?;
+    let mut guest = site_cells(alloc, cells)?;
     let before = jobs_found(&mut guest[1]);
     let taken = is_taken(alloc, &mut home[1], program)?;
     let after = jobs_found(&mut guest[1]) == 2 && jobs_found(&mut home[1]) == 2;
@@ -64,7 +64,7 @@ fn takes_one<'a, 'p>(
 ) -> Result<bool, Fail>
     requires { length cells.now ≡ 2 }
 {
-    let mut home = lines(alloc, cells)?;
+    let mut home = site_cells(alloc, cells)?;
     let first = is_taken(alloc, &mut home[1], program)?;
     let second = is_taken(alloc, &mut home[1], program)?;
     Ok(first && !second)

@@ -19,7 +19,7 @@ use once_cell::race::OnceBox;
 use sample_programs::{
     BOTH_BRANCHES, BOTH_PHASES, TWO_BRANCHES, TWO_PHASES, first_construct, parsed,
 };
-use shared_sites::{Claims, HartLocal, SharedSite, SiteCell, cells, hart_locals_of, lines};
+use shared_sites::{Claims, HartLocal, SharedSite, SiteCell, cells, hart_locals_of, site_cells};
 use site_steps::{SiteTree, WaitingPort};
 use std::alloc::Global;
 use std::sync::{Mutex, Wait};
@@ -45,7 +45,7 @@ fn hart<'x, 'p: 'x, R: Threads + Wait + Sync>(
     ensures { IfOk result (λ hart. StartsIn plan.now hart.port.port.view) }
 {
     let port = WaitingPort::new(LockedPort::new(alloc, lock, plan, number)?, rt);
-    let sites = HartSites::new(lines(alloc, cells)?, hart_local, TeamMode::Wait);
+    let sites = HartSites::new(site_cells(alloc, cells)?, hart_local, TeamMode::Wait);
     Ok(Hart {
         port,
         sites,
@@ -144,15 +144,15 @@ fn run_body<'x, 'p: 'x, R: Threads + Wait + Sync>(
 // The hart-local states of so many harts.
 fn all_hart_locals<'x>(
     alloc: Global,
-    words: &'x Claims,
-    claims: Vec<ClaimSeat>,
+    claims: &'x Claims,
+    seats: Vec<ClaimSeat>,
     harts: u8,
 ) -> Result<Vec<HartLocal<'x>>, Fail>
     requires harts { (1 ≤ harts) × (harts ≤ 16) }
-    requires count { vec_len claims ≡ harts }
-    requires all { AreAll words.now.table (map identity claims.items) }
+    requires count { vec_len seats ≡ harts }
+    requires all { AreAll claims.now.table (map identity seats.items) }
 {
-    Ok(hart_locals_of(alloc, words, rows(alloc, harts)?, claims)?)
+    Ok(hart_locals_of(alloc, claims, rows(alloc, harts)?, seats)?)
 }
 
 // Whether the program's body writes these cells.
@@ -169,8 +169,8 @@ fn body_writes<'x, 'p: 'x, R: Threads + Wait + Sync>(
     requires harts { (1 ≤ harts) × (harts ≤ 4) }
     requires few { accepted.now.plan.harts ≤ 4 }
 {
-    let (words, claims) = Claims::new(alloc, accepted, harts)?;
-    let hart_local = all_hart_locals(alloc, &words, claims, harts)?;
+    let (claims, seats) = Claims::new(alloc, accepted, harts)?;
+    let hart_local = all_hart_locals(alloc, &claims, seats, harts)?;
     let piece = run_body(rt, alloc, accepted, lock, base, cells, hart_local)?;
     Ok(piece.written.pairs() == written)
 }
@@ -233,13 +233,13 @@ fn harts_move_by_locked_ports(rt: HostRuntime) -> Result<(), Fail> {
 // The hart-local states of two harts.
 fn two_hart_locals<'x>(
     alloc: Global,
-    words: &'x Claims,
-    claims: Vec<ClaimSeat>,
+    claims: &'x Claims,
+    seats: Vec<ClaimSeat>,
 ) -> Result<(HartLocal<'x>, HartLocal<'x>), Fail>
-    requires count { vec_len claims ≡ 2 }
-    requires all { AreAll words.now.table (map identity claims.items) }
+    requires count { vec_len seats ≡ 2 }
+    requires all { AreAll claims.now.table (map identity seats.items) }
 {
-    let mut hart_local = all_hart_locals(alloc, words, claims, 2)?;
+    let mut hart_local = all_hart_locals(alloc, claims, seats, 2)?;
     let first = next_hart_local(&mut hart_local)?;
     Ok((first, next_hart_local(&mut hart_local)?))
 }
@@ -300,7 +300,7 @@ fn run_first<'x, 'p: 'x, R: Threads + Wait + Sync>(
 {
     let nested = first_construct(alloc, program)?;
     let mut port = WaitingPort::new(LockedPort::new(alloc, lock, plan, 1)?, rt);
-    let mut sites = HartSites::new(lines(alloc, cells)?, hart_local, TeamMode::Wait);
+    let mut sites = HartSites::new(site_cells(alloc, cells)?, hart_local, TeamMode::Wait);
     let mut around: HartSite<'x, 'p, SharedSite<'p>> = HartSite::base(base);
     let pass = |_: u8, _: &Job| {};
     let run = Run {
@@ -347,8 +347,8 @@ fn is_computed<R: Threads + Wait + Sync>(
 {
     let base = SharedBase::new(Base::new(alloc, accepted.plan().sites())?);
     let cells = cells(alloc, accepted.plan().sites())?;
-    let (words, claims) = Claims::new(alloc, accepted, 2)?;
-    let hart_local = two_hart_locals(alloc, &words, claims)?;
+    let (claims, seats) = Claims::new(alloc, accepted, 2)?;
+    let hart_local = two_hart_locals(alloc, &claims, seats)?;
     writes_late(
         rt, alloc, program, accepted, lock, &base, &cells, hart_local,
     )
@@ -363,16 +363,16 @@ fn a_construct_whose_site_is_gone_is_computed(rt: HostRuntime) -> Result<(), Fai
     Ok(())
 }
 
-// The home opens the first construct by these lines.
+// The home opens the first construct by these views of the cells.
 fn open_first<'x, 'p: 'x, R: Wait>(
     _rt: &'x R,
     alloc: Global,
     program: &'p Program,
-    lines: Vec<SiteCell<'x, SharedSite<'p>>>,
+    site_cells: Vec<SiteCell<'x, SharedSite<'p>>>,
     hart_local: HartLocal<'x>,
 ) -> Result<(), Fail> {
     let nested = first_construct(alloc, program)?;
-    let mut home = HartSites::new(lines, hart_local, TeamMode::Wait);
+    let mut home = HartSites::new(site_cells, hart_local, TeamMode::Wait);
     let _opened = Sites::<R, JobMachines<'p>>::open(&mut home, alloc, &nested)?;
     Ok(())
 }
@@ -384,7 +384,7 @@ fn finds_second<'x, 'p: 'x, R: Wait>(
     cells: &'x [OnceBox<SharedSite<'p>>],
     hart_local: HartLocal<'x>,
 ) -> Result<bool, Fail> {
-    let mut sites = HartSites::new(lines(alloc, cells)?, hart_local, TeamMode::Wait);
+    let mut sites = HartSites::new(site_cells(alloc, cells)?, hart_local, TeamMode::Wait);
     Ok(Sites::<R, JobMachines<'p>>::find(&mut sites, rt, 2).is_some())
 }
 
@@ -399,7 +399,7 @@ fn is_found_by_another<'x, 'p: 'x, R: Wait>(
     requires { length cells.now ≡ 3 }
 {
     let (own, others) = hart_local;
-    let mut turned = lines(alloc, cells)?;
+    let mut turned = site_cells(alloc, cells)?;
     turned.swap(1, 2);
     open_first(rt, alloc, program, turned, own)?;
     finds_second(rt, alloc, cells, others)
@@ -408,8 +408,8 @@ fn is_found_by_another<'x, 'p: 'x, R: Wait>(
 // The same with hart-local states of a run of two harts.
 fn is_found<R: Wait>(rt: &R, alloc: Global, program: &Program) -> Result<bool, Fail> {
     let cells = cells(alloc, 2)?;
-    let (words, claims) = Claims::new(alloc, &check(alloc, program, 2)?, 2)?;
-    let hart_local = two_hart_locals(alloc, &words, claims)?;
+    let (claims, seats) = Claims::new(alloc, &check(alloc, program, 2)?, 2)?;
+    let hart_local = two_hart_locals(alloc, &claims, seats)?;
     is_found_by_another(rt, alloc, program, &cells, hart_local)
 }
 

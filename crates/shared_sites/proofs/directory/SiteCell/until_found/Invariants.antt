@@ -1,7 +1,7 @@
 use Rattle.std.proofs.Common.{◌≡◌}
 use Rattle.shared_sites.proofs.directory.SiteCell.until_found.Given as goal
 
--- A look that finds nothing leaves the line unchanged.
+-- A look that finds nothing leaves the view unchanged.
 abbrev pub invariant-looks : goal.invariant-looks
 invariant-looks g l = record {
   next : (goal.iterator-looks g).can_next l.iterator';

@@ -8,7 +8,7 @@ use Rattle.lent_board.specs.Seats.{AreSeats}
 use Rattle.hart_loop.specs.Harts.{AllStart}
 use Rattle.hart_loop.proofs.Boards.{ports_start, ports_back}
 use Rattle.hart_loop.proofs.Seats.{seat_of, all_new, all_back}
-use Rattle.hart_loop.proofs.on_board.on_board.Goals as goal
+use Rattle.hart_loop.proofs.on_ports.on_board.Goals as goal
 
 pub run_ports-requires-clause-starts : goal.run_ports-requires-clause-starts
 run_ports-requires-clause-starts g c κs within =

@@ -1,4 +1,4 @@
-//! Runs of a crew on a board, of either layout.
+//! One run of a crew, by the ports of a board of either layout, or by the port of a single hart.
 ghost use Rattle.std.specs.Prelude.{◌≡◌, ◌≤◌, All, IfOk, length, map};
 ghost use Rattle.array_tree.specs.Trees.{program_of};
 ghost use Rattle.array_meaning.specs.Work.{final_store};
@@ -7,17 +7,19 @@ ghost use Rattle.board_rule.specs.Layouts.{HasRoom};
 ghost use Rattle.lent_board.specs.Of.{IsOf};
 
 use crate::crew::run_ports;
-use crate::members::TeamMode;
 use crate::outcome::store_after;
+use crate::team_mode::TeamMode;
 use array_eval::Store;
 use board_rule::Laid;
 use disjoint_check::Accepted;
+use hart_port::PlainPort;
 use hart_work::Run;
 use lent_board::{Board, BoardPort, Closed, HartSeat};
 use site_steps::WaitingPort;
 use std::alloc::{AllocError, Global};
 use std::sync::Wait;
 use std::thread::Threads;
+use transfer_table::Entries;
 
 /// Runs an accepted program once on the harts of its plan, which move on a board of their own. Returns the final store and the
 /// journal of the board.
@@ -32,7 +34,7 @@ use std::thread::Threads;
 pub fn on_board<L: Laid + Sync, R: Threads + Wait + Sync, F: Fn(u8, u16, u8, u8) + Sync>(
     run: Run<'_, R, F>,
     accepted: &Accepted<'_>,
-    members: TeamMode,
+    team_mode: TeamMode,
 ) -> Result<(Store, Closed<L>), AllocError>
     requires callable { F.IsAlwaysCallable run.pass.now }
     requires few_harts { HasRoom L.layout accepted.now.plan.harts }
@@ -42,13 +44,45 @@ pub fn on_board<L: Laid + Sync, R: Threads + Wait + Sync, F: Fn(u8, u16, u8, u8)
 {
     let (board, seats) = Board::<L>::new(run.alloc, accepted.plan())?;
     let ports = ports_of(run.rt, run.alloc, &board, seats)?;
-    let (piece, ports) = run_ports(run, accepted, members, ports)?;
+    let (piece, ports) = run_ports(run, accepted, team_mode, ports)?;
     let store = store_after(piece)?;
     let seats = seats_of(run.alloc, ports)?;
     match board.close(run.alloc, seats) {
         Ok(closed) => Ok((store, closed)),
         Err(_) => Err(AllocError),
     }
+}
+
+/// Runs an accepted program once on the one hart of its plan, with shared schedulers. Returns the final store and the journal of
+/// the hart's port. No clause states that it returns, since it is a crew of one.
+///
+/// # Errors
+///
+/// `AllocError` if an allocation fails.
+///
+/// # Memory
+///
+/// It allocates the port and its journal, and as `run_ports` does.
+pub fn on_plain_port<R: Threads + Wait + Sync, F: Fn(u8, u16, u8, u8) + Sync>(
+    run: Run<'_, R, F>,
+    accepted: &Accepted<'_>,
+    team_mode: TeamMode,
+) -> Result<(Store, Entries), AllocError>
+    requires callable { F.IsAlwaysCallable run.pass.now }
+    requires one { accepted.now.plan.harts ≡ 1 }
+    requires tree { run.tree.now ≡ accepted.now.plan }
+    ensures store { IfOk result (λ r. r.0 ≡ final_store (program_of accepted.now.program)) }
+    ensures short { IfOk result (λ r. length r.1 ≤ most_entries) }
+{
+    let port = PlainPort::new(run.alloc, run.tree.plan())?;
+    let mut ports = Vec::with_capacity(run.alloc, 1)?;
+    ports.push(WaitingPort::new(port, run.rt))?;
+    let (piece, mut ports) = run_ports(run, accepted, team_mode, ports)?;
+    let store = store_after(piece)?;
+    let Some(port) = ports.pop() else {
+        unreachable!()
+    };
+    Ok((store, port.into_port().finish()))
 }
 
 // A port for each seat.

@@ -5,7 +5,7 @@ use Rattle.transfer_table.specs.declared.entry.Entry.{Entry}
 use Rattle.transfer_table.proofs.Bounds.{few_entries}
 use Rattle.site_steps.specs.Shared.{shared}
 use Rattle.hart_loop.proofs.Boards.{one_back}
-use Rattle.hart_loop.proofs.on_plain_port.on_plain_port.Goals as goal
+use Rattle.hart_loop.proofs.on_ports.on_plain_port.Goals as goal
 
 pub returns-clause-store : goal.returns-clause-store
 returns-clause-store g c = c.in_ok-store.ensures (program_of c.args.accepted.now.program) c.in_ok-piece.ensures.piece

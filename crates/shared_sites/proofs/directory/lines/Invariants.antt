@@ -1,9 +1,0 @@
-use Rattle.std.proofs.Common.{◌≡◌, length, map, take}
-use Rattle.once_cell.specs.Once.{cell_name}
-use Rattle.shared_sites.proofs.directory.lines.Given as goal
-
-abbrev pub invariant-loop-cell : goal.invariant-loop-cell
-invariant-loop-cell g l = record {
-  count : length l.lines.items ≡ l.cell-index;
-  order : map (λ line. line.note.cell) l.lines.items ≡ map cell_name (take l.cell-index l.cells);
-}
