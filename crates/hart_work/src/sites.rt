@@ -74,8 +74,10 @@ pub trait Sites<R, M: Machines> {
             → Gives facts M.fresh_job site.old result site.new }
         ensures hart_local { hart_local self.new ≡ hart_local self.old };
 
-    /// Whether the hart tries again to enter the site, after another hart moved in between.
+    /// Whether the hart tries again to enter the site, after another hart moved in between. Only a hart that keeps an account of
+    /// its entries gives up, since there is no other hart that could move.
     fn tries_again(&mut self, rt: &R, site: &mut Self::Site) -> bool
+        ensures alone { result ≡ false → keeps }
         ensures stays { Stays facts site.old site.new }
         ensures left { result ≡ true → facts.left site.new < facts.left site.old }
         ensures hart_local { hart_local self.new ≡ hart_local self.old };
