@@ -1,8 +1,10 @@
 -- The schedulers for which a hart has a deque or claim counters.
-use Rattle.std.specs.Prelude.{◌<◌, ℕ}
+use Rattle.std.specs.Prelude.{◌≡◌, ◌<◌, ℕ}
 use Rattle.deque_rows.specs.Rows.{Identity, IsLevel}
 use Rattle.claim_words.specs.Seats.{SeatIdentity, IsOf}
+use Rattle.step_eval.specs.Nests.{NestedParts}
 use Rattle.loop_team.specs.Rows.{RowsFit}
+use Rattle.shared_sites.specs.ClaimRows.{IsFirstRow}
 use Rattle.shared_sites.specs.declared.scheduler_ref.PoolRef.{PoolRef}
 use Rattle.shared_sites.specs.declared.scheduler_ref.TeamRef.{TeamRef}
 use Rattle.shared_sites.specs.declared.scheduler_ref.SchedulerRef.{SchedulerRef}
@@ -27,6 +29,22 @@ Fits k (Pool pool) = PoolFits k.rows pool
 Fits k (Team team) = TeamFits k.seat team
 Fits k (Pipe pipe) = Unit {0}
 Fits k NoScheduler = Unit {0}
+
+-- The claim table has no counters for the team.
+abbrev pub HasNoCounters : HartLocalIdentities → NestedParts → Type 0
+HasNoCounters k team = (row : ℕ) → IsFirstRow k.shapes team row → RowsFit k.counts row team → ⊥
+
+-- The reference is to this scheduler of a site of this level. There is none only for a pool without a deque, for a team without
+-- claim counters, and for `Alone`.
+abbrev pub IsRefTo : HartLocalIdentities → SharedSite → ℕ → SchedulerRef → Type 0
+IsRefTo k (shared.Pool home pool) level (Pool found) =
+    (found.shared.now ≡ pool) × (found.home ≡ home) × (found.level ≡ level)
+IsRefTo k (shared.Pool home pool) level NoScheduler = IsLevel level → home < k.rows.harts → ⊥
+IsRefTo k (shared.Team team) level (Team found) = found.shared.now ≡ team
+IsRefTo k (shared.Team team) level NoScheduler = HasNoCounters k team
+IsRefTo k (shared.Pipe pipe) level (Pipe found) = found.now ≡ pipe
+IsRefTo k shared.Alone level NoScheduler = Unit {0}
+IsRefTo k site level found = ⊥
 
 -- The site of the scheduler; the base for `Alone`.
 abbrev pub site_at : SharedSite → ℕ

@@ -1,9 +1,9 @@
 //! The hart-local state for all sites: its deques, its seat, and the counters of each site.
-ghost use Rattle.std.specs.Prelude.{◌≡◌, ◌≤◌, ◌+◌, ◌↔◌, [], false, IsTrue, IfOk, IfSome, length, map, option_map, reverse, vec_len};
+ghost use Rattle.std.specs.Prelude.{◌≡◌, ◌<◌, ◌≤◌, ◌+◌, ◌↔◌, [], None, false, IsTrue, IfOk, IfSome, length, map, option_map, reverse, vec_len};
 ghost use Rattle.std.specs.Option.{ForSome};
 ghost use Rattle.deque_rows.specs.Rows.{IsLevel, home_log, row_room, identity as rows_identity};
 ghost use Rattle.claim_words.specs.Seats.{IsOf, identity as seat_identity};
-ghost use Rattle.shared_sites.specs.References.{Fits, PoolFits, TeamFits};
+ghost use Rattle.shared_sites.specs.References.{Fits, PoolFits, TeamFits, HasNoCounters, IsRefTo};
 ghost use Rattle.shared_sites.specs.Completed.{IsCompleted};
 ghost use Rattle.shared_sites.specs.HartLocals.{AreHartLocals};
 ghost use Rattle.shared_sites.specs.Keeping.{handed_to, HandsOver, StillKeeps};
@@ -32,7 +32,7 @@ use step_eval::{Kind, Nested, Work};
 
 /// The hart-local state for all sites: its access to the deques, its seat of the claim table, and the counters of each site.
 ///
-/// Contracts see its identities, which no call changes.
+/// Contracts see its identities and the run's claim counters, which no call changes.
 #[derive(Drop)]
 pub struct HartLocal<'t> {
     rows: HartRows,
@@ -49,7 +49,7 @@ impl<'t> Model for HartLocal<'t> {
 
     ghost Value = { HartLocalIdentities };
 
-    ghost view = { λ t. identities_of t.rows t.seat };
+    ghost view = { λ t. identities_of t.rows t.seat t.claims.now };
 
     ghost invariant = { λ t. IsOf t.claims.now.table (seat_identity t.seat)
         × ((rows_identity t.rows).harts ≡ t.harts) };
@@ -86,7 +86,9 @@ impl<'t> HartLocal<'t> {
     }
 
     /// The hart of this state.
-    pub fn hart(&self) -> u8 {
+    pub fn hart(&self) -> u8
+        ensures { result ≡ self.now.rows.hart }
+    {
         self.rows.hart()
     }
 
@@ -103,7 +105,7 @@ impl<'t> HartLocal<'t> {
         }
     }
 
-    /// A pool with its deque, if there is that deque.
+    /// A pool with its deque. `None` exactly if there is no such deque.
     fn pool_ref<'b, 'p>(
         &self,
         pool: &'b SharedPool<'p>,
@@ -111,7 +113,9 @@ impl<'t> HartLocal<'t> {
         level: u8,
     ) -> Option<PoolRef<'b, 'p>>
         ensures fits { ForSome result (λ found. PoolFits self.now.rows found) }
-        ensures pool { ForSome result (λ found. found.shared.now ≡ pool.now) }
+        ensures pool { ForSome result (λ found. (found.shared.now ≡ pool.now)
+            × (found.home ≡ home) × (found.level ≡ level)) }
+        ensures none { result ≡ None → IsLevel level → home < self.now.rows.harts → ⊥ }
     {
         if is_level(level) && home < self.harts {
             Some(PoolRef {
@@ -124,12 +128,13 @@ impl<'t> HartLocal<'t> {
         }
     }
 
-    /// A team with its claim counters, if the table has exactly those that it needs.
+    /// A team with its claim counters. `None` exactly if the table doesn't have those that it needs.
     fn team_ref<'b, 'p>(&self, team: &'b SharedTeam<'p>) -> Option<TeamRef<'b, 'p>>
     where
         't: 'b,
         ensures fits { ForSome result (λ found. TeamFits self.now.seat found) }
         ensures team { ForSome result (λ found. found.shared.now ≡ team.now) }
+        ensures none { result ≡ None → HasNoCounters self.now team.now }
     {
         let claims = self.claims;
         let row = claims.row_of(team.nested())?;
@@ -140,7 +145,8 @@ impl<'t> HartLocal<'t> {
         })
     }
 
-    /// The reference to a scheduler that harts share, at a site of this level.
+    /// The reference to a scheduler that harts share, at a site of this level. `NoScheduler` only for a pool without a deque, for a
+    /// team without claim counters, and for `Alone`.
     pub fn scheduler_ref<'b, 'p>(
         &self,
         shared: &'b SharedSite<'p>,
@@ -148,7 +154,8 @@ impl<'t> HartLocal<'t> {
     ) -> SchedulerRef<'b, 'p>
     where
         't: 'b,
-        ensures { Fits self.now result }
+        ensures fits { Fits self.now result }
+        ensures finds { IsRefTo self.now shared.now level result }
     {
         match shared {
             SharedSite::Pool { home, pool } => match self.pool_ref(pool, *home, level) {
