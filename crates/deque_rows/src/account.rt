@@ -91,9 +91,9 @@ impl Outcome<u32, Log> for Stole {
 }
 
 /// What is known of a deque when all passes are back in one.
-pub struct Whole;
+pub struct AllPassesBack;
 
-impl Lesson<u32, Log> for Whole {
+impl Lesson<u32, Log> for AllPassesBack {
     ghost use Rattle.deque_rows.specs.Account.{Determines};
 
     ghost fact = { Determines };

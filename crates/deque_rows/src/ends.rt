@@ -3,7 +3,7 @@ ghost use Rattle.std.specs.Prelude.{◌≡◌, ◌<◌, ◌≤◌, ◌+◌, ◌-
 ghost use Rattle.crossbeam_deque.specs.Handles.{view, IsPassOf, worker_deque, worker_flavor, worker_capacity, worker_index, stealer_deque, stealer_flavor, worker_view};
 ghost use Rattle.deque_rows.specs.Account.{blank, after_push, after_steal, joined, Pops, HeldAtMost, Determines};
 
-use crate::account::{Account, Log, Popped, Pushed, Share, Stole, Whole};
+use crate::account::{Account, AllPassesBack, Log, Popped, Pushed, Share, Stole};
 use crossbeam_deque::{Pass, Steal, Stealer, Worker};
 use std::alloc::{AllocError, Global};
 use std::sync::Wait;
@@ -88,7 +88,7 @@ impl HomeEnd {
         ensures same { worker_deque self.new.worker ≡ worker_deque self.old.worker }
         ensures made { self.new.made ≡ self.old.made }
     {
-        self.worker.len_as::<Whole>();
+        self.worker.len_as::<AllPassesBack>();
     }
 
     /// Pops the last index.
