@@ -3,6 +3,7 @@
 pub mod Members
 pub mod Owners
 pub mod Tables
+pub mod Teams
 pub mod Cells
 pub mod Marks
 pub mod Stretches

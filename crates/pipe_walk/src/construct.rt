@@ -9,6 +9,7 @@ ghost use Rattle.phase_order.specs.Tests.{crossing};
 use crate::crossing::crossing_of;
 use array_eval::{Layout, Scope, Vars};
 use array_tree::{Arrays, Stmt};
+use site_walk::Turns;
 use std::alloc::{AllocError, Global};
 use step_eval::Nested;
 
@@ -34,13 +35,16 @@ fn construct_crossing(
             ..
         } => {
             let layout = Layout::new(alloc, arrays)?;
+            let turns = Turns {
+                var,
+                low: *low,
+                high: *high,
+            };
             crossing_of(
                 alloc,
                 &layout,
                 phases,
-                var,
-                *low,
-                *high,
+                turns,
                 members.unsigned_abs(),
                 &Scope::Kept(vars),
             )

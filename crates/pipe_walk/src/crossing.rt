@@ -6,17 +6,17 @@ ghost use Rattle.array_meaning.specs.Stores.{cells_of};
 ghost use Rattle.array_meaning.specs.Work.{sequence_work};
 ghost use Rattle.array_meaning.specs.Members.{team_works};
 ghost use Rattle.array_meaning.specs.Overlap.{first_from};
-ghost use Rattle.array_meaning.specs.Sites.{phase_rounds};
 ghost use Rattle.array_eval.specs.Views.{vars_of};
 ghost use Rattle.phase_order.specs.Tests.{crosses, crossing};
 ghost use Rattle.pipe_walk.specs.Inside.Tables.{past_in, IsFor};
 ghost use Rattle.pipe_walk.specs.Inside.Marks.{with_pieces};
+ghost use Rattle.pipe_walk.specs.Inside.Teams.{team_rounds};
 
 use crate::mark::Member;
 use crate::stretches::members_are_clear;
 use crate::table::Table;
 use array_eval::{Layout, Scope, span, start_of_member};
-use array_tree::{Block, Blocks, Name};
+use array_tree::{Block, Blocks};
 use site_walk::{Turns, visit_loop};
 use std::alloc::{AllocError, Global};
 use touch_bounds::{Ranges, branches_pay, phase_pays};
@@ -28,22 +28,20 @@ const CELLS_A_STATEMENT: u64 = 16;
 fn mark_members<'s>(
     layout: &Layout,
     phase: &'s Block,
-    var: &'s Name,
-    low: i64,
-    high: i64,
+    turns: Turns<'s>,
     members: u64,
     scope: &'s Scope<'s>,
     table: &mut Table,
 )
     ensures { table.new ≡ with_pieces layout.now 0
-        (team_works var.now low high members (sequence_work (sequence_of phase.now))
+        (team_works turns.entry.var.now turns.entry.low turns.entry.high members (sequence_work (sequence_of phase.now))
         (vars_of scope.now)) table.old }
 {
     for member in 0..members {
         let part = Turns {
-            var,
-            low: start_of_member(low, high, members, member),
-            high: start_of_member(low, high, members, member + 1),
+            var: turns.var,
+            low: start_of_member(turns.low, turns.high, members, member),
+            high: start_of_member(turns.low, turns.high, members, member + 1),
         };
         visit_loop(&Member(member as usize), layout, phase, &part, scope, table);
     }
@@ -53,9 +51,7 @@ fn mark_members<'s>(
 fn walk_phases<'s>(
     layout: &Layout,
     phases: &'s Blocks,
-    var: &'s Name,
-    low: i64,
-    high: i64,
+    turns: Turns<'s>,
     members: u64,
     scope: &'s Scope<'s>,
     table: &mut Table,
@@ -64,11 +60,11 @@ fn walk_phases<'s>(
     ensures table { IsFor layout.now table.new }
     ensures crossed { (cell : ℕ) → cell < cells_of layout.now →
         (past_in table.new.past cell).crossed ≡ crosses layout.now cell 0 0
-        (phase_rounds (sequences_of phases.now) var.now low high members (vars_of scope.now)) }
+        (team_rounds (sequences_of phases.now) turns.entry members (vars_of scope.now)) }
 {
     table.clear();
     for phase in &phases.blocks {
-        mark_members(layout, phase, var, low, high, members, scope, table);
+        mark_members(layout, phase, turns, members, scope, table);
         table.settle();
     }
 }
@@ -110,15 +106,13 @@ fn is_seen_clear<'s>(
     alloc: Global,
     layout: &Layout,
     phases: &'s Blocks,
-    var: &'s Name,
-    low: i64,
-    high: i64,
+    turns: Turns<'s>,
     members: u64,
     table: u64,
     scope: &'s Scope<'s>,
 ) -> bool
     ensures { OnTrue result (crossing layout.now (cells_of layout.now)
-        (phase_rounds (sequences_of phases.now) var.now low high members (vars_of scope.now)) ≡ None) }
+        (team_rounds (sequences_of phases.now) turns.entry members (vars_of scope.now)) ≡ None) }
 {
     if members < 2 {
         return true;
@@ -126,20 +120,18 @@ fn is_seen_clear<'s>(
     if phases.blocks.len() < 2 {
         return true;
     }
-    if !looking_pays(phases, span(low, high), members, table) {
+    if !looking_pays(phases, span(turns.low, turns.high), members, table) {
         return false;
     }
     let ranges = Ranges::Fixed(scope);
-    members_are_clear(alloc, layout, phases, var, low, high, members, &ranges)
+    members_are_clear(alloc, layout, phases, turns, members, &ranges)
 }
 
 // The least cell on which two pieces of a `team` cross, by a walk.
 fn walked_crossing<'s>(
     layout: &Layout,
     phases: &'s Blocks,
-    var: &'s Name,
-    low: i64,
-    high: i64,
+    turns: Turns<'s>,
     members: u64,
     scope: &'s Scope<'s>,
     table: &mut Table,
@@ -147,9 +139,9 @@ fn walked_crossing<'s>(
     requires { IsFor layout.now table.old }
     ensures table { IsFor layout.now table.new }
     ensures found { result ≡ crossing layout.now (cells_of layout.now)
-        (phase_rounds (sequences_of phases.now) var.now low high members (vars_of scope.now)) }
+        (team_rounds (sequences_of phases.now) turns.entry members (vars_of scope.now)) }
 {
-    walk_phases(layout, phases, var, low, high, members, scope, table);
+    walk_phases(layout, phases, turns, members, scope, table);
     least_crossed(layout, table)
 }
 
@@ -159,9 +151,7 @@ pub(crate) fn crossing_in<'s>(
     alloc: Global,
     layout: &Layout,
     phases: &'s Blocks,
-    var: &'s Name,
-    low: i64,
-    high: i64,
+    turns: Turns<'s>,
     members: u64,
     scope: &'s Scope<'s>,
     table: &mut Table,
@@ -169,13 +159,13 @@ pub(crate) fn crossing_in<'s>(
     requires { IsFor layout.now table.old }
     ensures table { IsFor layout.now table.new }
     ensures found { result ≡ crossing layout.now (cells_of layout.now)
-        (phase_rounds (sequences_of phases.now) var.now low high members (vars_of scope.now)) }
+        (team_rounds (sequences_of phases.now) turns.entry members (vars_of scope.now)) }
 {
     // Why: the table is there already.
-    if is_seen_clear(alloc, layout, phases, var, low, high, members, 0, scope) {
+    if is_seen_clear(alloc, layout, phases, turns, members, 0, scope) {
         return None;
     }
-    walked_crossing(layout, phases, var, low, high, members, scope, table)
+    walked_crossing(layout, phases, turns, members, scope, table)
 }
 
 /// The least cell on which two pieces cross of a `team` of so many members, with these phases and the variables of this scope
@@ -192,19 +182,17 @@ pub fn crossing_of<'s>(
     alloc: Global,
     layout: &Layout,
     phases: &'s Blocks,
-    var: &'s Name,
-    low: i64,
-    high: i64,
+    turns: Turns<'s>,
     members: u64,
     scope: &'s Scope<'s>,
 ) -> Result<Option<u16>, AllocError>
     ensures { IfOk result (λ found. found ≡ crossing layout.now (cells_of layout.now)
-        (phase_rounds (sequences_of phases.now) var.now low high members (vars_of scope.now))) }
+        (team_rounds (sequences_of phases.now) turns.entry members (vars_of scope.now))) }
 {
     let made = layout.cells() as u64 / CELLS_A_STATEMENT;
-    if is_seen_clear(alloc, layout, phases, var, low, high, members, made, scope) {
+    if is_seen_clear(alloc, layout, phases, turns, members, made, scope) {
         return Ok(None);
     }
     let mut table = Table::new(alloc, layout)?;
-    Ok(walked_crossing(layout, phases, var, low, high, members, scope, &mut table))
+    Ok(walked_crossing(layout, phases, turns, members, scope, &mut table))
 }

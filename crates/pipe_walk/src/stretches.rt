@@ -3,13 +3,14 @@ ghost use Rattle.std.specs.Prelude.{◌≡◌, ◌↔◌, ℕ, ◌<◌, length, 
 ghost use Rattle.std.specs.Bool.{OnTrue};
 ghost use Rattle.array_tree.specs.Trees.{sequence_of, sequences_of};
 ghost use Rattle.array_meaning.specs.Work.{sequence_work};
-ghost use Rattle.array_meaning.specs.Sites.{phase_rounds};
 ghost use Rattle.touch_bounds.specs.Ranges.{bounds_of};
 ghost use Rattle.touch_bounds.specs.Touches.{DoClash, Includes, Widens};
 ghost use Rattle.pipe_walk.specs.Inside.Stretches.{AreTurnsNoted, AreClear, IsMemberAlwaysClear, HasNeverCrossing};
+ghost use Rattle.pipe_walk.specs.Inside.Teams.{team_rounds};
 
 use array_eval::{Layout, start_of_member};
-use array_tree::{Block, Blocks, Name};
+use array_tree::{Block, Blocks};
+use site_walk::Turns;
 use std::alloc::Global;
 use touch_bounds::{Interval, Ranges, Stretch, Touch, UNTOUCHED, note_block};
 
@@ -43,47 +44,41 @@ fn are_clear(layout: &Layout, one: &[Touch], other: &[Touch]) -> bool
     true
 }
 
-// Records a block that runs for each number from `low` to before `high`, and so for any turns of it. Returns whether all is
-// known.
+// Records a block that runs for each of these turns, and so for any of them. Returns whether all is known.
 fn note_turns<'s>(
     layout: &Layout,
     body: &'s Block,
-    var: &'s Name,
-    low: i64,
-    high: i64,
+    turns: Turns<'s>,
     ranges: &'s Ranges<'s>,
     touches: &mut [Touch],
 ) -> bool
     requires { length touches.old ≡ length layout.now }
     ensures wider { Widens touches.old touches.new }
     ensures noted { OnTrue result
-        (AreTurnsNoted layout.now touches.new (bounds_of ranges.now) var.now low high
-        (sequence_work (sequence_of body.now))) }
+        (AreTurnsNoted layout.now touches.new (bounds_of ranges.now) turns.entry.var.now turns.entry.low
+        turns.entry.high (sequence_work (sequence_of body.now))) }
 {
-    if low >= high {
+    if turns.low >= turns.high {
         return true;
     }
-    let turns = Ranges::Loop {
-        name: var,
+    let inside = Ranges::Loop {
+        name: turns.var,
         within: Interval {
-            least: low,
-            greatest: high - 1,
+            least: turns.low,
+            greatest: turns.high - 1,
         },
         outer: ranges,
     };
-    note_block(layout, body, &turns, touches)
+    note_block(layout, body, &inside, touches)
 }
 
-// Whether the touches of a member's turns in a phase, from `start` to before `end`, are known, and clash with none of the
-// earlier phases' touches by the members above it. If so, it also records the touches of their turns in this phase, up to
-// before `last`.
+// Whether the touches of a member's own turns in a phase are known, and clash with none of the earlier phases' touches by the
+// members above it. If so, it also records the touches of their turns in this phase.
 fn phase_is_clear<'s>(
     layout: &Layout,
     phase: &'s Block,
-    var: &'s Name,
-    start: i64,
-    end: i64,
-    last: i64,
+    own_turns: Turns<'s>,
+    turns_above: Turns<'s>,
     ranges: &'s Ranges<'s>,
     own: &mut [Touch],
     above: &mut [Touch],
@@ -92,21 +87,21 @@ fn phase_is_clear<'s>(
     requires above { length above.old ≡ length layout.now }
     ensures wider { Widens above.old above.new }
     ensures own { OnTrue result
-        (AreTurnsNoted layout.now own.new (bounds_of ranges.now) var.now start end
-        (sequence_work (sequence_of phase.now))) }
+        (AreTurnsNoted layout.now own.new (bounds_of ranges.now) own_turns.entry.var.now
+        own_turns.entry.low own_turns.entry.high (sequence_work (sequence_of phase.now))) }
     ensures clear { OnTrue result (AreClear layout.now own.new above.old) }
     ensures above { OnTrue result
-        (AreTurnsNoted layout.now above.new (bounds_of ranges.now) var.now end last
-        (sequence_work (sequence_of phase.now))) }
+        (AreTurnsNoted layout.now above.new (bounds_of ranges.now) turns_above.entry.var.now
+        turns_above.entry.low turns_above.entry.high (sequence_work (sequence_of phase.now))) }
 {
     own.fill(UNTOUCHED);
-    if !note_turns(layout, phase, var, start, end, ranges, own) {
+    if !note_turns(layout, phase, own_turns, ranges, own) {
         return false;
     }
     if !are_clear(layout, own, above) {
         return false;
     }
-    note_turns(layout, phase, var, end, last, ranges, above)
+    note_turns(layout, phase, turns_above, ranges, above)
 }
 
 // Whether the text shows that a member's touches clash, in each phase, with none of the earlier phases' touches by the members
@@ -114,9 +109,7 @@ fn phase_is_clear<'s>(
 fn member_is_clear<'s>(
     layout: &Layout,
     phases: &'s Blocks,
-    var: &'s Name,
-    low: i64,
-    high: i64,
+    turns: Turns<'s>,
     members: u64,
     member: u64,
     ranges: &'s Ranges<'s>,
@@ -128,14 +121,22 @@ fn member_is_clear<'s>(
     requires above { length above.old ≡ length layout.now }
     ensures { OnTrue result
         (IsMemberAlwaysClear layout.now (bounds_of ranges.now) member
-        (phase_rounds (sequences_of phases.now) var.now low high members)) }
+        (team_rounds (sequences_of phases.now) turns.entry members)) }
 {
-    let start = start_of_member(low, high, members, member);
-    let end = start_of_member(low, high, members, member + 1);
-    let last = start_of_member(low, high, members, members);
+    let end = start_of_member(turns.low, turns.high, members, member + 1);
+    let own_turns = Turns {
+        var: turns.var,
+        low: start_of_member(turns.low, turns.high, members, member),
+        high: end,
+    };
+    let turns_above = Turns {
+        var: turns.var,
+        low: end,
+        high: start_of_member(turns.low, turns.high, members, members),
+    };
     above.fill(UNTOUCHED);
     for phase in &phases.blocks {
-        if !phase_is_clear(layout, phase, var, start, end, last, ranges, own, above) {
+        if !phase_is_clear(layout, phase, own_turns, turns_above, ranges, own, above) {
             return false;
         }
     }
@@ -146,9 +147,7 @@ fn member_is_clear<'s>(
 fn each_is_clear<'s>(
     layout: &Layout,
     phases: &'s Blocks,
-    var: &'s Name,
-    low: i64,
-    high: i64,
+    turns: Turns<'s>,
     members: u64,
     ranges: &'s Ranges<'s>,
     own: &mut [Touch],
@@ -158,12 +157,10 @@ fn each_is_clear<'s>(
     requires above { length above.old ≡ length layout.now }
     ensures { OnTrue result
         (HasNeverCrossing layout.now (bounds_of ranges.now)
-        (phase_rounds (sequences_of phases.now) var.now low high members)) }
+        (team_rounds (sequences_of phases.now) turns.entry members)) }
 {
     for member in 0..members {
-        if !member_is_clear(
-            layout, phases, var, low, high, members, member, ranges, own, above,
-        ) {
+        if !member_is_clear(layout, phases, turns, members, member, ranges, own, above) {
             return false;
         }
     }
@@ -181,15 +178,13 @@ pub(crate) fn members_are_clear<'s>(
     alloc: Global,
     layout: &Layout,
     phases: &'s Blocks,
-    var: &'s Name,
-    low: i64,
-    high: i64,
+    turns: Turns<'s>,
     members: u64,
     ranges: &'s Ranges<'s>,
 ) -> bool
     ensures { OnTrue result
         (HasNeverCrossing layout.now (bounds_of ranges.now)
-        (phase_rounds (sequences_of phases.now) var.now low high members)) }
+        (team_rounds (sequences_of phases.now) turns.entry members)) }
 {
     let Ok(mut own) = vec![in alloc; UNTOUCHED; layout.count()] else {
         return false;
@@ -197,7 +192,5 @@ pub(crate) fn members_are_clear<'s>(
     let Ok(mut above) = vec![in alloc; UNTOUCHED; layout.count()] else {
         return false;
     };
-    each_is_clear(
-        layout, phases, var, low, high, members, ranges, &mut own, &mut above,
-    )
+    each_is_clear(layout, phases, turns, members, ranges, &mut own, &mut above)
 }

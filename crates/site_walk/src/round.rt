@@ -17,7 +17,7 @@ use crate::table::Table;
 use crate::turns::Turns;
 use crate::visits::{visit_block, visit_loop};
 use array_eval::{Layout, Scope, span, start_of_member};
-use array_tree::{Block, Blocks, Name};
+use array_tree::{Block, Blocks};
 use std::alloc::Global;
 use touch_bounds::{Ranges, branches_are_apart, branches_pay, members_are_apart, phase_pays};
 
@@ -101,22 +101,20 @@ pub(crate) fn overlap_of_branches<'s>(
 fn mark_members<'s>(
     layout: &Layout,
     phase: &'s Block,
-    var: &'s Name,
-    low: i64,
-    high: i64,
+    turns: Turns<'s>,
     members: u64,
     scope: &'s Scope<'s>,
     table: &mut Table,
 )
     ensures { table.new ≡ with_pieces layout.now 0
-        (team_works var.now low high members (sequence_work (sequence_of phase.now))
+        (team_works turns.entry.var.now turns.entry.low turns.entry.high members (sequence_work (sequence_of phase.now))
         (vars_of scope.now)) table.old }
 {
     for member in 0..members {
         let part = Turns {
-            var,
-            low: start_of_member(low, high, members, member),
-            high: start_of_member(low, high, members, member + 1),
+            var: turns.var,
+            low: start_of_member(turns.low, turns.high, members, member),
+            high: start_of_member(turns.low, turns.high, members, member + 1),
         };
         visit_loop(&Piece(member as usize), layout, phase, &part, scope, table);
     }
@@ -128,9 +126,7 @@ pub(crate) fn overlap_of_members<'s>(
     alloc: Global,
     layout: &Layout,
     phase: &'s Block,
-    var: &'s Name,
-    low: i64,
-    high: i64,
+    turns: Turns<'s>,
     members: u64,
     scope: &'s Scope<'s>,
     table: &mut Table,
@@ -138,21 +134,21 @@ pub(crate) fn overlap_of_members<'s>(
     requires places { HasPlaces layout.now table.old }
     ensures places { HasPlaces layout.now table.new }
     ensures found { result ≡ overlap layout.now (cells_of layout.now)
-        (team_works var.now low high members (sequence_work (sequence_of phase.now))
+        (team_works turns.entry.var.now turns.entry.low turns.entry.high members (sequence_work (sequence_of phase.now))
         (vars_of scope.now)) }
     ensures small { IfSome result (λ cell. cell < most_cells) }
 {
     if members < 2 {
         return None;
     }
-    if phase_pays(phase, span(low, high), members, 0)
+    if phase_pays(phase, span(turns.low, turns.high), members, 0)
         && members_are_apart(
             alloc,
             layout,
             phase,
-            var,
-            low,
-            high,
+            turns.var,
+            turns.low,
+            turns.high,
             members,
             &Ranges::Fixed(scope),
         )
@@ -160,6 +156,6 @@ pub(crate) fn overlap_of_members<'s>(
         return None;
     }
     table.clear();
-    mark_members(layout, phase, var, low, high, members, scope, table);
+    mark_members(layout, phase, turns, members, scope, table);
     least_overlap(layout, table)
 }

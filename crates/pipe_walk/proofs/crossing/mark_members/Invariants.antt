@@ -8,5 +8,5 @@ use Rattle.pipe_walk.proofs.crossing.mark_members.Given as goal
 
 abbrev pub invariant-loop-member : goal.invariant-loop-member
 invariant-loop-member l =
-    with_pieces l.layout l.member (member_works l.var l.low l.high l.members (sequence_work (sequence_of l.phase)) l.member (l.members - l.member) (vars_of l.scope)) l.table
-    ≡ with_pieces l.layout 0 (member_works l.var l.low l.high l.members (sequence_work (sequence_of l.phase)) 0 l.members (vars_of l.scope)) l.fn.table
+    with_pieces l.layout l.member (member_works l.turns.var.now l.turns.low l.turns.high l.members (sequence_work (sequence_of l.phase)) l.member (l.members - l.member) (vars_of l.scope)) l.table
+    ≡ with_pieces l.layout 0 (member_works l.turns.var.now l.turns.low l.turns.high l.members (sequence_work (sequence_of l.phase)) 0 l.members (vars_of l.scope)) l.fn.table

@@ -6,5 +6,5 @@ use Rattle.pipe_walk.proofs.PhaseLemmas.{IsThrough}
 use Rattle.pipe_walk.proofs.crossing.walk_phases.Given as goal
 
 abbrev pub invariant-loop-phase : goal.invariant-loop-phase
-invariant-loop-phase l = IsThrough l.layout (phase_rounds (sequences_of l.phases) l.var l.low l.high l.members (vars_of l.scope))
-    (phase_rounds (sequences (map sequence_of (drop l.phase-index l.phase-items))) l.var l.low l.high l.members (vars_of l.scope)) l.table
+invariant-loop-phase l = IsThrough l.layout (phase_rounds (sequences_of l.phases) l.turns.var.now l.turns.low l.turns.high l.members (vars_of l.scope))
+    (phase_rounds (sequences (map sequence_of (drop l.phase-index l.phase-items))) l.turns.var.now l.turns.low l.turns.high l.members (vars_of l.scope)) l.table

@@ -1,10 +1,9 @@
-use Rattle.std.proofs.Common.{◌<◌, arith, to_z, of_z, w64, ap, ◌∙◌}
-use Rattle.std.proofs.lemmas.Int.{to_z-of_z}
+use Rattle.std.proofs.Common.{◌<◌, arith, ◌∙◌}
 use Rattle.array_tree.specs.Trees.{sequences_of}
 use Rattle.array_meaning.specs.Stores.{cells_of}
 use Rattle.array_meaning.specs.Sites.{phase_rounds}
 use Rattle.array_eval.specs.Views.{vars_of}
-use Rattle.phase_order.specs.Tests.{crosses, crossing}
+use Rattle.phase_order.specs.Tests.{crosses}
 use Rattle.pipe_walk.specs.Inside.Tables.{past_in}
 use Rattle.pipe_walk.proofs.PhaseLemmas.{same_cells}
 use Rattle.pipe_walk.proofs.crossing.walked_crossing.Goals as goal
@@ -15,12 +14,10 @@ returns-clause-found c =
     let cells = cells_of arrays in
     let vars = vars_of c.args.scope.now in
     let phases = sequences_of c.args.phases.now in
-    let var = c.args.var.now in
-    let low = to_z w64 (of_z w64 c.args.low) in
-    let high = to_z w64 (of_z w64 c.args.high) in
+    let var = c.args.turns.var.now in
+    let low = c.args.turns.low in
+    let high = c.args.turns.high in
     let members = c.args.members in
     c.least_crossed.ensures
     ∙ same_cells (λ cell. (past_in c.walk_phases.new.table.past cell).crossed) (λ cell. crosses arrays cell 0 0 (phase_rounds phases var low high members vars)) 0 cells
     (λ cell small. c.walk_phases.ensures.crossed cell (let h : cell < cells = omega arith in h))
-    ∙ ap (λ l. crossing arrays cells (phase_rounds phases var l high members vars)) (to_z-of_z w64 c.args.low c.ranges.low)
-    ∙ ap (λ h. crossing arrays cells (phase_rounds phases var c.args.low h members vars)) (to_z-of_z w64 c.args.high c.ranges.high)

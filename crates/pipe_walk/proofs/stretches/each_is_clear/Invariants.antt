@@ -7,4 +7,4 @@ use Rattle.pipe_walk.proofs.stretches.each_is_clear.Given as goal
 
 abbrev pub invariant-loop-member : goal.invariant-loop-member
 invariant-loop-member l =
-    (j : ℕ) → j < l.member → IsMemberAlwaysClear l.layout (bounds_of l.ranges) j (phase_rounds (sequences_of l.phases) l.var l.low l.high l.members)
+    (j : ℕ) → j < l.member → IsMemberAlwaysClear l.layout (bounds_of l.ranges) j (phase_rounds (sequences_of l.phases) l.turns.var.now l.turns.low l.turns.high l.members)

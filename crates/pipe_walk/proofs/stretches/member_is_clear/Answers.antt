@@ -1,5 +1,5 @@
 use Rattle.std.proofs.Common.{◌≡◌, ◌+◌, ℤ, List, map, get_or, to_z, of_z, w64, ap, sym, subst, ◌∙◌, arith}
-use Rattle.std.proofs.lemmas.Int.{to_z-of_z}
+use Rattle.std.proofs.lemmas.Int.{to_z-of_z, ints}
 use Rattle.array_tree.specs.Trees.{sequence_of, sequences, sequences_of}
 use Rattle.array_tree.specs.declared.tree.Block.{Block}
 use Rattle.array_tree.proofs.Views.{sequences_of-blocks}
@@ -14,9 +14,9 @@ use Rattle.pipe_walk.proofs.stretches.member_is_clear.Goals as goal
 
 pub loop-phase-init : goal.loop-phase-init
 loop-phase-init c =
-    let low = to_z w64 (of_z w64 c.args.low) in
-    let high = to_z w64 (of_z w64 c.args.high) in
-    none_passed c.args.layout.now (bounds_of c.args.ranges.now) c.args.member (rounds_in c.deref-phase-items.result.now c.args.var.now low high c.args.members) c.fill.new.self
+    let low = c.args.turns.low in
+    let high = c.args.turns.high in
+    none_passed c.args.layout.now (bounds_of c.args.ranges.now) c.args.member (rounds_in c.deref-phase-items.result.now c.args.turns.var.now low high c.args.members) c.fill.new.self
 
 pub loop-phase-preserved : goal.loop-phase-preserved
 loop-phase-preserved c =
@@ -25,23 +25,25 @@ loop-phase-preserved c =
     let items = c.deref-phase-items.result.now in
     let i = c.loop-phase.phase-index in
     let d = c.phase-item.result in
-    let var = c.args.var.now in
-    let low = to_z w64 (of_z w64 c.args.low) in
-    let high = to_z w64 (of_z w64 c.args.high) in
+    let var = c.args.turns.var.now in
+    let low = c.args.turns.low in
+    let high = c.args.turns.high in
     let members = c.args.members in
     let member = c.args.member in
     let own = c.phase_is_clear.new.own in
     let before = c.loop-phase.above in
     let after = c.phase_is_clear.new.above in
-    let from = c.start_of_member-start.result in
+    let from = c.start_of_member.result in
     let to = c.start_of_member-end.result in
-    let top = c.start_of_member-last.result in
+    let top = c.start_of_member-2.result in
+    let lows : to_z w64 (of_z w64 low) ≡ low = omega (arith, ints) in
+    let highs : to_z w64 (of_z w64 high) ≡ high = omega (arith, ints) in
     let starts : to_z w64 (of_z w64 from) ≡ start_of low high members member
-    = to_z-of_z w64 from (record { sfits = c.start_of_member-start.type_inv }) ∙ c.start_of_member-start.ensures in
+    = to_z-of_z w64 from (record { sfits = c.start_of_member.type_inv }) ∙ (rw (lows, highs) at c.start_of_member.ensures) in
     let ends : to_z w64 (of_z w64 to) ≡ start_of low high members (member + 1)
-    = to_z-of_z w64 to (record { sfits = c.start_of_member-end.type_inv }) ∙ c.start_of_member-end.ensures in
+    = to_z-of_z w64 to (record { sfits = c.start_of_member-end.type_inv }) ∙ (rw (lows, highs) at c.start_of_member-end.ensures) in
     let lasts : to_z w64 (of_z w64 top) ≡ start_of low high members members
-    = to_z-of_z w64 top (record { sfits = c.start_of_member-last.type_inv }) ∙ c.start_of_member-last.ensures in
+    = to_z-of_z w64 top (record { sfits = c.start_of_member-2.type_inv }) ∙ (rw (lows, highs) at c.start_of_member-2.ensures) in
     let turns = λ (t : List Touch) (x y : ℤ) (b : Block). AreTurnsNoted arrays t bounds var x y (sequence_work (sequence_of b)) in
     let own_is : turns own (start_of low high members member) (start_of low high members (member + 1)) (get_or items i d)
     = subst (turns own (start_of low high members member) (start_of low high members (member + 1))) c.phase-item.is
@@ -62,14 +64,12 @@ returns c =
     let bounds = bounds_of c.args.ranges.now in
     let items = c.deref-phase-items.result.now in
     let phases = sequences_of c.args.phases.now in
-    let var = c.args.var.now in
-    let low = to_z w64 (of_z w64 c.args.low) in
-    let high = to_z w64 (of_z w64 c.args.high) in
+    let var = c.args.turns.var.now in
+    let low = c.args.turns.low in
+    let high = c.args.turns.high in
     let members = c.args.members in
     let member = c.args.member in
     let ends = c.loop-phase-test.false in
     let blocks = sequences_of-blocks c.args.phases.now ∙ ap (λ bs. sequences (map sequence_of bs)) (sym c.deref-phase-items.ensures.value) in
-    let all = all_passed arrays bounds member c.loop-phase.phase-index items var low high members c.loop-phase.above (omega arith) c.loop-phase.invariant in
-    subst (λ h. IsMemberAlwaysClear arrays bounds member (phase_rounds phases var c.args.low h members)) (to_z-of_z w64 c.args.high c.ranges.high)
-    (subst (λ l. IsMemberAlwaysClear arrays bounds member (phase_rounds phases var l high members)) (to_z-of_z w64 c.args.low c.ranges.low)
-    (subst (λ bs. IsMemberAlwaysClear arrays bounds member (phase_rounds bs var low high members)) (sym blocks) all))
+    subst (λ bs. IsMemberAlwaysClear arrays bounds member (phase_rounds bs var low high members)) (sym blocks)
+    (all_passed arrays bounds member c.loop-phase.phase-index items var low high members c.loop-phase.above (omega arith) c.loop-phase.invariant)

@@ -1,6 +1,5 @@
-use Rattle.std.proofs.Common.{◌≡◌, w64, to_z, of_z, sym, ap, ◌∙◌, arith}
+use Rattle.std.proofs.Common.{sym, ap, ◌∙◌}
 use Rattle.std.specs.Prelude.{not}
-use Rattle.std.proofs.lemmas.Int.{ints}
 use Rattle.array_tree.specs.Trees.{sequences_of}
 use Rattle.array_meaning.specs.Stores.{cells_of}
 use Rattle.array_meaning.specs.Sites.{phase_rounds}
@@ -14,17 +13,11 @@ returns-in-Some-clause-found c =
     let turns = c.args.turns.now in
     let arrays = c.args.layout.now in
     let least = crossing arrays (cells_of arrays) (phase_rounds (sequences_of c.args.phases.now) turns.var.now turns.low turns.high c.args.members (vars_of c.args.scope.now)) in
-    let low : to_z w64 (of_z w64 turns.low) ≡ turns.low = omega (arith, ints) in
-    let high : to_z w64 (of_z w64 turns.high) ≡ turns.high = omega (arith, ints) in
-    let found = rw (low, high) at c.crossing_in.ensures.found in
-    keep_cell c.args.self.now.found c.args.line c.in-Some.cell least (c.is_none.ensures ∙ ap not c.if-is_none.true) (sym found ∙ c.in-Some.is)
+    keep_cell c.args.self.now.found c.args.line c.in-Some.cell least (c.is_none.ensures ∙ ap not c.if-is_none.true) (sym c.crossing_in.ensures.found ∙ c.in-Some.is)
 
 pub returns-in_default-clause-found : goal.returns-in_default-clause-found
 returns-in_default-clause-found c =
     let turns = c.args.turns.now in
     let arrays = c.args.layout.now in
     let least = crossing arrays (cells_of arrays) (phase_rounds (sequences_of c.args.phases.now) turns.var.now turns.low turns.high c.args.members (vars_of c.args.scope.now)) in
-    let low : to_z w64 (of_z w64 turns.low) ≡ turns.low = omega (arith, ints) in
-    let high : to_z w64 (of_z w64 turns.high) ≡ turns.high = omega (arith, ints) in
-    let found = rw (low, high) at c.crossing_in.ensures.found in
-    keep_none c.args.self.now.found c.args.line least (sym found ∙ c.in_default.is)
+    keep_none c.args.self.now.found c.args.line least (sym c.crossing_in.ensures.found ∙ c.in_default.is)

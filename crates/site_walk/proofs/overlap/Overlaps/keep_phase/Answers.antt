@@ -1,6 +1,5 @@
-use Rattle.std.proofs.Common.{◌≡◌, w64, to_z, of_z, sym, ap, ◌∙◌, arith}
+use Rattle.std.proofs.Common.{sym, ap, ◌∙◌}
 use Rattle.std.specs.Prelude.{not}
-use Rattle.std.proofs.lemmas.Int.{ints}
 use Rattle.array_tree.specs.Trees.{sequence_of}
 use Rattle.array_meaning.specs.Stores.{cells_of}
 use Rattle.array_meaning.specs.Work.{sequence_work}
@@ -15,17 +14,11 @@ returns-in-Some-clause-found c =
     let turns = c.args.turns.now in
     let arrays = c.args.layout.now in
     let least = overlap arrays (cells_of arrays) (team_works turns.var.now turns.low turns.high c.args.members (sequence_work (sequence_of c.args.phase.now)) (vars_of c.args.scope.now)) in
-    let low : to_z w64 (of_z w64 turns.low) ≡ turns.low = omega (arith, ints) in
-    let high : to_z w64 (of_z w64 turns.high) ≡ turns.high = omega (arith, ints) in
-    let found = rw (low, high) at c.overlap_of_members.ensures.found in
-    keep_cell c.args.self.now.found c.args.line c.in-Some.cell least (c.is_none.ensures ∙ ap not c.if-is_none.true) (sym found ∙ c.in-Some.is)
+    keep_cell c.args.self.now.found c.args.line c.in-Some.cell least (c.is_none.ensures ∙ ap not c.if-is_none.true) (sym c.overlap_of_members.ensures.found ∙ c.in-Some.is)
 
 pub returns-in_default-clause-found : goal.returns-in_default-clause-found
 returns-in_default-clause-found c =
     let turns = c.args.turns.now in
     let arrays = c.args.layout.now in
     let least = overlap arrays (cells_of arrays) (team_works turns.var.now turns.low turns.high c.args.members (sequence_work (sequence_of c.args.phase.now)) (vars_of c.args.scope.now)) in
-    let low : to_z w64 (of_z w64 turns.low) ≡ turns.low = omega (arith, ints) in
-    let high : to_z w64 (of_z w64 turns.high) ≡ turns.high = omega (arith, ints) in
-    let found = rw (low, high) at c.overlap_of_members.ensures.found in
-    keep_none c.args.self.now.found c.args.line least (c.is_none.ensures ∙ ap not c.if-is_none.true) (sym found ∙ c.in_default.is)
+    keep_none c.args.self.now.found c.args.line least (c.is_none.ensures ∙ ap not c.if-is_none.true) (sym c.overlap_of_members.ensures.found ∙ c.in_default.is)
