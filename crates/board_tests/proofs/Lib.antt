@@ -1,2 +1,2 @@
 pub mod SeatPorts
-mod Two
+pub mod SeatRows

@@ -1,24 +1,37 @@
-//! Sites that are skipped. After each call the words are compared.
-ghost use Rattle.std.specs.Prelude.{◌≡◌, ◌<◌, [], ◌∷◌, true, false};
+//! Sites that are skipped, on a board of either layout. After each call the words are compared.
+ghost use Rattle.std.specs.Prelude.{◌≡◌, ◌<◌, [], ◌∷◌, true};
 ghost use Rattle.transfer_table.specs.Plan.{site_count};
 ghost use Rattle.board_rule.specs.Encodings.{width};
-ghost use Rattle.board_rule.specs.Views.{fresh_view};
-ghost use Rattle.word_board.specs.Of.{IsOf};
+ghost use Rattle.board_rule.specs.Layouts.{HasRoom};
+ghost use Rattle.board_tests.specs.Roam.{IsSameHart};
 
-use crate::seats::{close_one, close_two, open_one, open_two};
+use crate::seats::{Opened, close, close_one, open, open_one, seat_of};
+use board_rule::Laid;
+use hart_port::{Entered, Port, Seen, Taken};
+use lent_board::{Board, BoardPort, ByGuests, ByOwners};
 use std::alloc::Global;
 use std::test::Fail;
 use transfer_table::{Entry, Fault, Plan, Why, first_fault};
-use word_board::{Entered, HartSeat, Seen, Taken, WordBoard};
 
-const ROW: [Entry; 3] = [
-    Entry::Skip { hart: 0, site: 1 },
-    Entry::Register { hart: 0, site: 3 },
-    Entry::Unregister { hart: 0, site: 3 },
-];
+// The entries, of which the last two are this hart's.
+fn entries(hart: u8) -> [Entry; 3] {
+    [
+        Entry::Skip { hart: 0, site: 1 },
+        Entry::Register { hart, site: 3 },
+        Entry::Unregister { hart, site: 3 },
+    ]
+}
 
-// Whether the board word and the words of the three sites are these.
-fn has(board: &WordBoard, first: u64, sites: [u64; 3]) -> bool
+// The first words after each entry. By owners they hold the number of entries, times 2 ^ 48, and the owner of hart 0, and times
+// 2 ^ 12 that of hart 1.
+const OF_ONE: [u64; 3] = [281474976710656, 562949953421315, 844424930131968];
+
+const OF_TWO: [u64; 3] = [281474976710656, 562949953433600, 844424930131968];
+
+const BY_GUESTS: [u64; 3] = [1, 2, 3];
+
+// Whether the first word and the words of the three sites are these.
+fn has<L: Laid>(board: &Board<L>, first: u64, sites: [u64; 3]) -> bool
     requires { 3 < width board.now.plan }
 {
     board.peek(0) == first
@@ -27,134 +40,187 @@ fn has(board: &WordBoard, first: u64, sites: [u64; 3]) -> bool
         && board.peek(3) == sites[2]
 }
 
-// Whether site 1 is skipped and then refused, with site 2 below it, whose word is unchanged.
-fn has_skipped(board: &WordBoard, seat: &mut HartSeat) -> bool
-    requires plan { board.now.plan ≡ record { harts = 1; parents = 0 ∷ 1 ∷ 0 ∷ [] } }
-    requires of { IsOf board.now seat.old }
-    requires seat { seat.old.seat.me.0 ≡ record (fresh_view board.now.plan 0) { made = 1 } }
-    ensures of { IsOf board.now seat.new }
-    ensures hart { seat.new.seat.me.0.hart ≡ 0 }
-    ensures owner { result ≡ true → seat.new.seat.me.0.owner ≡ 0 }
+// Whether a hart in the base is refused at site 1, which was skipped.
+fn is_taken<P: Port<Hold = ()>>(port: &mut P) -> bool
+    requires plan { (P.seen port.old).plan.parents ≡ 0 ∷ 1 ∷ 0 ∷ [] }
+    requires base { (P.seen port.old).owner ≡ 0 }
+    ensures same { IsSameHart (P.seen port.old) (P.seen port.new) }
+    ensures base { result ≡ true → (P.seen port.new).owner ≡ 0 }
 {
-    board.skip(seat, 1) == Ok(())
-        && has(board, 281474976710656, [5, 0, 0])
-        && board.skip(seat, 1) == Err(Taken { shown: 5 })
-        && board.register(seat, 1) == Err(Taken { shown: 5 })
-        && has(board, 281474976710656, [5, 0, 0])
+    port.skip((), 1) == Err(Taken { shown: 5 }) && port.register((), 1) == Err(Taken { shown: 5 })
 }
 
-// Whether a skipped site is seen gone by its word, and a site below it isn't.
-fn has_seen(board: &WordBoard, seat: &mut HartSeat) -> bool
-    requires plan { board.now.plan ≡ record { harts = 1; parents = 0 ∷ 1 ∷ 0 ∷ [] } }
-    requires of { IsOf board.now seat.old }
-    requires hart { seat.old.seat.me.0.hart ≡ 0 }
-    requires owner { seat.old.seat.me.0.owner ≡ 0 }
-    ensures of { IsOf board.now seat.new }
-    ensures hart { seat.new.seat.me.0.hart ≡ 0 }
-    ensures owner { seat.new.seat.me.0.owner ≡ 0 }
+// Whether site 1 is seen gone by its word, and site 2, which is below it, isn't.
+fn is_seen_gone<P: Port<Hold = ()>>(port: &mut P) -> bool
+    requires { (P.seen port.old).plan.parents ≡ 0 ∷ 1 ∷ 0 ∷ [] }
+    ensures same { IsSameHart (P.seen port.old) (P.seen port.new) }
+    ensures owner { (P.seen port.new).owner ≡ (P.seen port.old).owner }
 {
-    let one = board.see_gone(seat, 1);
-    let below = board.see_gone(seat, 2);
-    one && !below
+    port.see_gone((), 1) && !port.see_gone((), 2)
+}
+
+// Whether a hart skips site 1 and is refused there afterwards. The word of site 2, which is below it, is unchanged.
+fn is_skipped<L: Laid, P: Port<Hold = ()>>(board: &Board<L>, port: &mut P, first: u64) -> bool
+    requires plan { ((P.seen port.old).plan.parents ≡ 0 ∷ 1 ∷ 0 ∷ []) × (3 < width board.now.plan) }
+    requires base { (P.seen port.old).owner ≡ 0 }
+    ensures same { IsSameHart (P.seen port.old) (P.seen port.new) }
+    ensures base { result ≡ true → (P.seen port.new).owner ≡ 0 }
+{
+    if port.skip((), 1) != Ok(()) || !has(board, first, [5, 0, 0]) {
+        return false;
+    }
+    is_taken(port) && has(board, first, [5, 0, 0]) && is_seen_gone(port)
+}
+
+// Whether another hart is refused at a site that was skipped, and sees it gone.
+fn is_refused<L: Laid, P: Port<Hold = ()>>(board: &Board<L>, port: &mut P, first: u64) -> bool
+    requires plan { ((P.seen port.old).plan.parents ≡ 0 ∷ 1 ∷ 0 ∷ []) × (3 < width board.now.plan) }
+    requires base { (P.seen port.old).owner ≡ 0 }
+    ensures same { IsSameHart (P.seen port.old) (P.seen port.new) }
+    ensures base { result ≡ true → (P.seen port.new).owner ≡ 0 }
+{
+    if !is_taken(port) || port.try_enter((), 1) != (Entered::NotWanted { shown: 5 }) {
+        return false;
+    }
+    has(board, first, [5, 0, 0]) && is_seen_gone(port)
 }
 
 // Whether site 3 is registered, left and gone.
-fn has_come_and_gone(board: &WordBoard, seat: &mut HartSeat) -> bool
-    requires plan { board.now.plan ≡ record { harts = 1; parents = 0 ∷ 1 ∷ 0 ∷ [] } }
-    requires of { IsOf board.now seat.old }
-    requires hart { seat.old.seat.me.0.hart ≡ 0 }
-    requires owner { seat.old.seat.me.0.owner ≡ 0 }
-    ensures of { IsOf board.now seat.new }
-    ensures hart { seat.new.seat.me.0.hart ≡ 0 }
+fn has_come_and_gone<L: Laid, P: Port<Hold = ()>>(
+    board: &Board<L>,
+    port: &mut P,
+    firsts: [u64; 3],
+) -> bool
+    requires plan { ((P.seen port.old).plan.parents ≡ 0 ∷ 1 ∷ 0 ∷ []) × (3 < width board.now.plan) }
+    requires base { (P.seen port.old).owner ≡ 0 }
+    ensures same { IsSameHart (P.seen port.old) (P.seen port.new) }
 {
-    if board.register(seat, 3) != Ok(()) {
+    if port.register((), 3) != Ok(()) || !has(board, firsts[1], [5, 0, 1]) {
         return false;
     }
-    let registered = has(board, 562949953421315, [5, 0, 1]);
-    board.close_site(seat);
-    let closing = has(board, 562949953421315, [5, 0, 3]);
-    let Seen::Empty = board.see_empty(seat) else {
+    port.close_site(());
+    if !has(board, firsts[1], [5, 0, 3]) || port.see_empty(()) != Seen::Empty {
         return false;
-    };
-    board.unregister(seat);
-    registered && closing && has(board, 844424930131968, [5, 0, 7]) && board.see_gone(seat, 3)
+    }
+    port.unregister(());
+    has(board, firsts[2], [5, 0, 7]) && port.see_gone((), 3)
 }
 
-// Whether the entries are complete if only site 3 is meant to be entered. If they aren't, whether the fault is the least site
-// that is registered and not meant, or meant and not registered.
-fn is_reported(
-    alloc: Global,
-    plan: &Plan,
-    entries: &[Entry],
-    meant: [bool; 3],
-) -> Result<bool, Fail>
+// The fault of the entries if these sites are meant to be entered: the least site that is registered and not meant, or meant and
+// not registered.
+fn fault_of(meant: [bool; 3]) -> Option<Fault> {
+    let site = if meant[0] {
+        1
+    } else if meant[1] {
+        2
+    } else if !meant[2] {
+        3
+    } else {
+        return None;
+    };
+    Some(Fault {
+        place: 3,
+        why: Why::Unmeant {
+            site,
+            registered: site == 3,
+        },
+    })
+}
+
+// Whether the entries are those of this hart, and have these faults.
+fn are_reported(alloc: Global, plan: &Plan, hart: u8, found: &[Entry]) -> Result<bool, Fail>
     requires { site_count plan.now ≡ 3 }
 {
-    let site = if meant[0] {
-        Some(1)
-    } else if meant[1] {
-        Some(2)
-    } else if !meant[2] {
-        Some(3)
-    } else {
-        None
-    };
-    let wanted = match site {
-        Some(site) => Some(Fault {
-            place: 3,
-            why: Why::Unmeant {
-                site,
-                registered: site == 3,
-            },
-        }),
-        None => None,
-    };
-    Ok(entries.len() == 3 && first_fault(alloc, plan, &meant, entries)? == wanted)
+    if found.len() != 3 || found != entries(hart).as_slice() {
+        return Ok(false);
+    }
+    for bits in 0..8_u8 {
+        let meant = [bits % 2 == 1, bits / 2 % 2 == 1, bits / 4 == 1];
+        if first_fault(alloc, plan, &meant, found)? != fault_of(meant) {
+            return Ok(false);
+        }
+    }
+    Ok(true)
+}
+
+// Whether one hart skips site 1, where the other is refused, which registers site 3 and leaves it.
+fn is_played<L: Laid, P: Port<Hold = ()>>(
+    board: &Board<L>,
+    one: &mut P,
+    other: &mut P,
+    firsts: [u64; 3],
+) -> bool
+    requires one { ((P.seen one.old).plan.parents ≡ 0 ∷ 1 ∷ 0 ∷ []) × ((P.seen one.old).owner ≡ 0) }
+    requires other { ((P.seen other.old).plan.parents ≡ 0 ∷ 1 ∷ 0 ∷ [])
+        × ((P.seen other.old).owner ≡ 0) }
+    requires wide { 3 < width board.now.plan }
+    ensures same { IsSameHart (P.seen one.old) (P.seen one.new)
+        × IsSameHart (P.seen other.old) (P.seen other.new) }
+{
+    is_skipped(board, one, firsts[0])
+        && is_refused(board, other, firsts[0])
+        && has_come_and_gone(board, other, firsts)
+}
+
+// Whether two harts of a board do so, and the journal has their entries.
+fn by_two<L: Laid>(alloc: Global, firsts: [u64; 3]) -> Result<(bool, bool), Fail>
+    requires { HasRoom L.layout 2 }
+{
+    let plan = Plan::new(alloc, 2, &[0, 1, 0])?;
+    let Opened {
+        board,
+        first,
+        last,
+        between,
+    } = open::<L>(alloc, &plan)?;
+    let mut one = BoardPort::new(&board, first);
+    let mut other = BoardPort::new(&board, last);
+    let is_played = is_played(&board, &mut one, &mut other, firsts);
+    let first = seat_of(&board, one);
+    let last = seat_of(&board, other);
+    let closed = close(alloc, board, first, last, between)?;
+    let is_reported = are_reported(alloc, &plan, 1, closed.entries())?;
+    Ok((is_played, is_reported))
 }
 
 #[test]
 fn a_site_with_one_below_is_skipped(rt: HostRuntime) -> Result<(), Fail> {
-    let plan = Plan::new(rt.alloc(), 1, &[0, 1, 0])?;
-    let (board, mut seat) = open_one(rt.alloc(), &plan)?;
-    assert!(rt; has_skipped(&board, &mut seat));
-    assert!(rt; has_seen(&board, &mut seat));
-    assert!(rt; has_come_and_gone(&board, &mut seat));
-    let closed = close_one(rt.alloc(), board, seat)?;
-    assert!(rt; closed.entries() == ROW.as_slice());
-    for bits in 0..8_u8 {
-        let meant = [bits % 2 == 1, bits / 2 % 2 == 1, bits / 4 == 1];
-        assert!(rt; is_reported(rt.alloc(), &plan, closed.entries(), meant)?);
-    }
+    assert_eq!(rt; by_two::<ByOwners>(rt.alloc(), OF_TWO)?, (true, true));
+    assert_eq!(rt; by_two::<ByGuests>(rt.alloc(), BY_GUESTS)?, (true, true));
     Ok(())
 }
 
-// Whether a site that one hart skips refuses the other's skip, register and enter.
-fn is_refused(board: &WordBoard, one: &mut HartSeat, other: &mut HartSeat) -> bool
-    requires plan { board.now.plan ≡ record { harts = 2; parents = 0 ∷ 0 ∷ [] } }
-    requires of { IsOf board.now one.old × IsOf board.now other.old }
-    requires one { one.old.seat.me.0 ≡ record (fresh_view board.now.plan 0) { made = 2 } }
-    requires other { other.old.seat.me.0 ≡ fresh_view board.now.plan 1 }
-    ensures of { IsOf board.now one.new × IsOf board.now other.new }
-    ensures harts { (one.new.seat.me.0.hart ≡ 0) × (other.new.seat.me.0.hart ≡ 1) }
+// Whether one hart does both.
+fn is_played_alone<L: Laid, P: Port<Hold = ()>>(
+    board: &Board<L>,
+    port: &mut P,
+    firsts: [u64; 3],
+) -> bool
+    requires port { ((P.seen port.old).plan.parents ≡ 0 ∷ 1 ∷ 0 ∷ [])
+        × ((P.seen port.old).owner ≡ 0) }
+    requires wide { 3 < width board.now.plan }
+    ensures same { IsSameHart (P.seen port.old) (P.seen port.new) }
 {
-    board.skip(one, 1) == Ok(())
-        && board.skip(other, 1) == Err(Taken { shown: 5 })
-        && board.register(other, 1) == Err(Taken { shown: 5 })
-        && board.try_enter(other, 1) == Entered::NotWanted { shown: 5 }
-        && board.register(other, 2) == Ok(())
-        && board.skip(one, 2) == Err(Taken { shown: 1 })
+    is_skipped(board, port, firsts[0]) && has_come_and_gone(board, port, firsts)
+}
+
+// Whether the only hart of a board does both, and the journal has its entries.
+fn by_one<L: Laid>(alloc: Global, firsts: [u64; 3]) -> Result<(bool, bool), Fail>
+    requires { HasRoom L.layout 1 }
+{
+    let plan = Plan::new(alloc, 1, &[0, 1, 0])?;
+    let (board, seat) = open_one::<L>(alloc, &plan)?;
+    let mut port = BoardPort::new(&board, seat);
+    let is_played = is_played_alone(&board, &mut port, firsts);
+    let seat = seat_of(&board, port);
+    let closed = close_one(alloc, board, seat)?;
+    let is_reported = are_reported(alloc, &plan, 0, closed.entries())?;
+    Ok((is_played, is_reported))
 }
 
 #[test]
-fn a_site_that_is_taken_is_not_skipped(rt: HostRuntime) -> Result<(), Fail> {
-    let plan = Plan::new(rt.alloc(), 2, &[0, 0])?;
-    let (board, mut a, mut b) = open_two(rt.alloc(), &plan)?;
-    assert!(rt; is_refused(&board, &mut a, &mut b));
-    let closed = close_two(rt.alloc(), board, a, b)?;
-    let entries = [
-        Entry::Skip { hart: 0, site: 1 },
-        Entry::Register { hart: 1, site: 2 },
-    ];
-    assert!(rt; closed.entries() == entries.as_slice());
+fn one_hart_skips_a_site(rt: HostRuntime) -> Result<(), Fail> {
+    assert_eq!(rt; by_one::<ByOwners>(rt.alloc(), OF_ONE)?, (true, true));
+    assert_eq!(rt; by_one::<ByGuests>(rt.alloc(), BY_GUESTS)?, (true, true));
     Ok(())
 }

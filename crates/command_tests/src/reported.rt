@@ -8,13 +8,6 @@ use run_audit::{audit, text_fault_line, verdict_line};
 use std::alloc::Global;
 use std::test::Fail;
 
-/// Two branches that write two cells of one array.
-pub const BRANCHES: &str = "array a[4]; par { { a[0] = 1; } { a[1] = 2; } }";
-
-/// A team inside a branch.
-pub const NESTED: &str =
-    "array a[4]; par { { team i in 0..2 by 2 { a[i] = i + 5; } } { a[3] = 9; } }";
-
 /// The line that an audit of the output writes, or the line that reports the error of its text.
 pub fn reported(alloc: Global, harts: u8, program: &str, output: &[u8]) -> Result<Vec<u8>, Fail>
     requires some { 1 ≤ harts }

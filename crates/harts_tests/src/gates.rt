@@ -1,4 +1,4 @@
-//! Gates that note reports of pieces, and that hold harts.
+//! A gate that notes reports of pieces, and that may hold harts.
 use crossbeam_utils::Backoff;
 use outside_io::Gate;
 use std::alloc::{AllocError, Global};
@@ -14,6 +14,31 @@ pub struct Report {
     pub place: u8,
 }
 
+/// A member in a phase.
+#[derive(Clone, Copy)]
+pub struct Spot {
+    pub phase: u8,
+    pub place: u8,
+}
+
+/// The harts that a gate holds, and until when.
+#[derive(Clone, Copy)]
+pub enum Hold {
+    /// None.
+    NoHart,
+    /// The hart that reports the first piece, until a second piece is reported.
+    Meeting,
+    /// Each hart, until so many different harts have reported a piece.
+    Crowd(usize),
+    /// The hart that reports the one piece, until the other is reported.
+    Overtaking { held: Spot, awaited: Spot },
+    /// Each hart, until two harts have reported a piece of the same phase.
+    Phase,
+}
+
+/// The greatest number of looks of a gate.
+pub const LOOKS: u32 = 400_000_000;
+
 /// The reports, in their order, and whether some report was lost because an allocation failed.
 #[derive(Drop)]
 struct Notes {
@@ -21,29 +46,35 @@ struct Notes {
     is_short: bool,
 }
 
-/// A gate that notes each report.
+/// A gate that notes each report, and holds harts, each for a bounded number of looks. It notes that the looks of one ran out.
 #[derive(Drop)]
-pub struct NotingGate {
+pub struct HoldingGate {
     notes: Mutex<Notes>,
+    hold: Hold,
+    looks: u32,
+    ran_out: Mutex<bool>,
 }
 
-impl NotingGate {
-    /// A gate without reports, and with room for a few.
+impl HoldingGate {
+    /// A gate that no hart has passed, and that holds a hart for at most so many looks. It has room for a few reports.
     ///
     /// # Errors
     ///
     /// An error if an allocation fails.
-    pub fn new(alloc: Global) -> Result<NotingGate, AllocError> {
+    pub fn new(alloc: Global, hold: Hold, looks: u32) -> Result<HoldingGate, AllocError> {
         let reports = Vec::with_capacity(alloc, 16)?;
-        Ok(NotingGate {
+        Ok(HoldingGate {
             notes: Mutex::new(Notes {
                 reports,
                 is_short: false,
             }),
+            hold,
+            looks,
+            ran_out: Mutex::new(false),
         })
     }
 
-    /// Notes a report. Returns the number of reports.
+    // Notes a report. Returns the number of reports.
     fn note<R: Wait>(&self, rt: &R, report: Report) -> usize {
         let mut notes = self.notes.lock(rt);
         if notes.reports.push(report).is_err() {
@@ -52,8 +83,8 @@ impl NotingGate {
         notes.reports.len()
     }
 
-    /// The number of reports.
-    pub fn count<R: Wait>(&self, rt: &R) -> usize {
+    // The number of reports.
+    fn count<R: Wait>(&self, rt: &R) -> usize {
         self.notes.lock(rt).reports.len()
     }
 
@@ -72,13 +103,10 @@ impl NotingGate {
         came.iter().filter(|has_come| **has_come).count()
     }
 
-    /// Whether the piece at this index of this phase was reported.
-    pub fn has<R: Wait>(&self, rt: &R, phase: u8, place: u8) -> bool {
+    // Whether this piece was reported.
+    fn has<R: Wait>(&self, rt: &R, spot: Spot) -> bool {
         let notes = self.notes.lock(rt);
-        notes
-            .reports
-            .iter()
-            .any(|report| report.phase == phase && report.place == place)
+        notes.reports.iter().any(|report| report.phase == spot.phase && report.place == spot.place)
     }
 
     /// All reports, in their order.
@@ -93,192 +121,40 @@ impl NotingGate {
         }
         notes.reports.to_vec(alloc)
     }
-}
-
-impl Gate for NotingGate {
-    fn passed<R: Threads + Wait + Sync>(&self, rt: &R, hart: u8, site: u16, phase: u8, place: u8) {
-        let _ = self.note(
-            rt,
-            Report {
-                hart,
-                site,
-                phase,
-                place,
-            },
-        );
-    }
-}
-
-/// A gate that holds the hart that reports the first piece until a second piece is reported. It holds the hart for a bounded
-/// number of looks, and notes that they ran out.
-#[derive(Drop)]
-pub struct MeetingGate {
-    noted: NotingGate,
-    ran_out: Mutex<bool>,
-}
-
-/// The greatest number of looks of a gate.
-pub const LOOKS: u32 = 400_000_000;
-
-impl MeetingGate {
-    /// A gate that no hart has passed.
-    ///
-    /// # Errors
-    ///
-    /// An error if an allocation fails.
-    pub fn new(alloc: Global) -> Result<MeetingGate, AllocError> {
-        Ok(MeetingGate {
-            noted: NotingGate::new(alloc)?,
-            ran_out: Mutex::new(false),
-        })
-    }
-
-    /// The reports.
-    pub fn noted(&self) -> &NotingGate {
-        &self.noted
-    }
-
-    /// Whether the first hart was held until its looks ran out.
-    pub fn has_run_out<R: Wait>(&self, rt: &R) -> bool {
-        *self.ran_out.lock(rt)
-    }
-
-    // Looks until two pieces were reported.
-    fn hold<R: Wait>(&self, rt: &R) {
-        let backoff = Backoff::new();
-        for _ in 0..LOOKS {
-            if self.noted.count(rt) >= 2 {
-                return;
-            }
-            backoff.snooze();
-        }
-        *self.ran_out.lock(rt) = true;
-    }
-}
-
-impl Gate for MeetingGate {
-    fn passed<R: Threads + Wait + Sync>(&self, rt: &R, hart: u8, site: u16, phase: u8, place: u8) {
-        let report = Report {
-            hart,
-            site,
-            phase,
-            place,
-        };
-        if self.noted.note(rt, report) == 1 {
-            self.hold(rt);
-        }
-    }
-}
-
-/// A gate that holds each hart that reports a piece until so many different harts have reported one, for a bounded number of
-/// looks.
-#[derive(Drop)]
-pub struct CrowdGate {
-    noted: NotingGate,
-    harts: usize,
-    ran_out: Mutex<bool>,
-}
-
-impl CrowdGate {
-    /// A gate for so many harts that no hart has passed.
-    ///
-    /// # Errors
-    ///
-    /// An error if an allocation fails.
-    pub fn new(alloc: Global, harts: usize) -> Result<CrowdGate, AllocError> {
-        Ok(CrowdGate {
-            noted: NotingGate::new(alloc)?,
-            harts,
-            ran_out: Mutex::new(false),
-        })
-    }
-
-    /// The reports.
-    pub fn noted(&self) -> &NotingGate {
-        &self.noted
-    }
 
     /// Whether a hart was held until its looks ran out.
     pub fn has_run_out<R: Wait>(&self, rt: &R) -> bool {
         *self.ran_out.lock(rt)
     }
 
-    // Looks until so many harts have reported a piece, or the looks of a hart ran out.
-    fn hold<R: Wait>(&self, rt: &R) {
-        let backoff = Backoff::new();
-        for _ in 0..LOOKS {
-            if self.noted.harts(rt, None) >= self.harts || self.has_run_out(rt) {
-                return;
+    // Whether it holds the hart of this report, the last of so many.
+    fn holds(&self, report: Report, count: usize) -> bool {
+        match self.hold {
+            Hold::NoHart => false,
+            Hold::Meeting => count == 1,
+            Hold::Crowd(_) | Hold::Phase => true,
+            Hold::Overtaking { held, awaited: _ } => {
+                report.phase == held.phase && report.place == held.place
             }
-            backoff.snooze();
         }
-        *self.ran_out.lock(rt) = true;
-    }
-}
-
-impl Gate for CrowdGate {
-    fn passed<R: Threads + Wait + Sync>(&self, rt: &R, hart: u8, site: u16, phase: u8, place: u8) {
-        let report = Report {
-            hart,
-            site,
-            phase,
-            place,
-        };
-        let _ = self.noted.note(rt, report);
-        self.hold(rt);
-    }
-}
-
-/// A member in a phase.
-#[derive(Clone, Copy, Debug)]
-pub struct Spot {
-    pub phase: u8,
-    pub place: u8,
-}
-
-/// A gate that holds the hart that reports one piece until another piece is reported, for a bounded number of looks.
-#[derive(Drop)]
-pub struct OvertakingGate {
-    noted: NotingGate,
-    held: Spot,
-    awaited: Spot,
-    looks: u32,
-    ran_out: Mutex<bool>,
-}
-
-impl OvertakingGate {
-    /// A gate that no hart has passed. It holds the hart of the one piece until the other is reported, for at most so many
-    /// looks.
-    pub fn new(
-        alloc: Global,
-        held: Spot,
-        awaited: Spot,
-        looks: u32,
-    ) -> Result<OvertakingGate, AllocError> {
-        Ok(OvertakingGate {
-            noted: NotingGate::new(alloc)?,
-            held,
-            awaited,
-            looks,
-            ran_out: Mutex::new(false),
-        })
     }
 
-    /// The reports.
-    pub fn noted(&self) -> &NotingGate {
-        &self.noted
+    // Whether the hart of this report is held no longer.
+    fn is_met<R: Wait>(&self, rt: &R, report: Report) -> bool {
+        match self.hold {
+            Hold::NoHart => true,
+            Hold::Meeting => self.count(rt) >= 2,
+            Hold::Crowd(harts) => self.harts(rt, None) >= harts,
+            Hold::Overtaking { held: _, awaited } => self.has(rt, awaited),
+            Hold::Phase => self.harts(rt, Some(report.phase)) >= 2,
+        }
     }
 
-    /// Whether the hart was held until its looks ran out.
-    pub fn has_run_out<R: Wait>(&self, rt: &R) -> bool {
-        *self.ran_out.lock(rt)
-    }
-
-    // Looks until the awaited piece is reported.
-    fn hold<R: Wait>(&self, rt: &R) {
+    // Looks until the hart is held no longer, or the looks of a hart ran out.
+    fn wait<R: Wait>(&self, rt: &R, report: Report) {
         let backoff = Backoff::new();
         for _ in 0..self.looks {
-            if self.noted.has(rt, self.awaited.phase, self.awaited.place) {
+            if self.is_met(rt, report) || self.has_run_out(rt) {
                 return;
             }
             backoff.snooze();
@@ -287,7 +163,7 @@ impl OvertakingGate {
     }
 }
 
-impl Gate for OvertakingGate {
+impl Gate for HoldingGate {
     fn passed<R: Threads + Wait + Sync>(&self, rt: &R, hart: u8, site: u16, phase: u8, place: u8) {
         let report = Report {
             hart,
@@ -295,67 +171,9 @@ impl Gate for OvertakingGate {
             phase,
             place,
         };
-        let _ = self.noted.note(rt, report);
-        if phase == self.held.phase && place == self.held.place {
-            self.hold(rt);
+        let count = self.note(rt, report);
+        if self.holds(report, count) {
+            self.wait(rt, report);
         }
-    }
-}
-
-/// A gate that holds each hart until two harts have reported a piece of the same phase, for a bounded number of looks.
-#[derive(Drop)]
-pub struct PhaseGate {
-    noted: NotingGate,
-    looks: u32,
-    ran_out: Mutex<bool>,
-}
-
-impl PhaseGate {
-    /// A gate that no hart has passed, and that holds a hart for at most so many looks.
-    ///
-    /// # Errors
-    ///
-    /// An error if an allocation fails.
-    pub fn new(alloc: Global, looks: u32) -> Result<PhaseGate, AllocError> {
-        Ok(PhaseGate {
-            noted: NotingGate::new(alloc)?,
-            looks,
-            ran_out: Mutex::new(false),
-        })
-    }
-
-    /// The reports.
-    pub fn noted(&self) -> &NotingGate {
-        &self.noted
-    }
-
-    /// Whether a hart was held until its looks ran out.
-    pub fn has_run_out<R: Wait>(&self, rt: &R) -> bool {
-        *self.ran_out.lock(rt)
-    }
-
-    // Looks until two harts have reported a piece of this phase.
-    fn hold<R: Wait>(&self, rt: &R, phase: u8) {
-        let backoff = Backoff::new();
-        for _ in 0..self.looks {
-            if self.noted.harts(rt, Some(phase)) >= 2 || self.has_run_out(rt) {
-                return;
-            }
-            backoff.snooze();
-        }
-        *self.ran_out.lock(rt) = true;
-    }
-}
-
-impl Gate for PhaseGate {
-    fn passed<R: Threads + Wait + Sync>(&self, rt: &R, hart: u8, site: u16, phase: u8, place: u8) {
-        let report = Report {
-            hart,
-            site,
-            phase,
-            place,
-        };
-        let _ = self.noted.note(rt, report);
-        self.hold(rt, phase);
     }
 }

@@ -1,5 +1,5 @@
 //! Runs whose gates meet all harts.
-use crate::gates::{CrowdGate, MeetingGate, NotingGate, Report};
+use crate::gates::{Hold, HoldingGate, LOOKS, Report};
 use crate::runs::{NESTED, SIXTEEN, TWO, TWO_BRANCHES, output_of};
 use memchr::memmem;
 use std::alloc::{AllocError, Global};
@@ -28,11 +28,11 @@ fn are_both(reports: &[Report]) -> bool {
 
 #[test]
 fn both_harts_are_inside_one_site(rt: HostRuntime) -> Result<(), Fail> {
-    let gate = MeetingGate::new(rt.alloc())?;
+    let gate = HoldingGate::new(rt.alloc(), Hold::Meeting, LOOKS)?;
     let output = output_of(&rt, TWO, TWO_BRANCHES, &gate)?;
     assert!(rt; !gate.has_run_out(&rt));
     assert!(rt; output.as_slice() == MET);
-    let reports = gate.noted().reports(&rt, rt.alloc())?;
+    let reports = gate.reports(&rt, rt.alloc())?;
     assert!(rt; are_both(&reports));
     Ok(())
 }
@@ -75,7 +75,7 @@ pub fn times(reports: &[Report], site: u16, phase: u8, place: u8) -> usize {
 
 #[test]
 fn each_piece_is_taken_once_by_a_hart_inside_its_site(rt: HostRuntime) -> Result<(), Fail> {
-    let gate = NotingGate::new(rt.alloc())?;
+    let gate = HoldingGate::new(rt.alloc(), Hold::NoHart, LOOKS)?;
     let output = output_of(&rt, TWO, NESTED, &gate)?;
     assert!(rt; output.starts_with(b"a = 5 6 0 9\n"));
     let reports = gate.reports(&rt, rt.alloc())?;
@@ -93,12 +93,12 @@ const SIXTEEN_BRANCHES: &[u8] =
 // Each hart is held at its first piece until all have one, so each takes exactly one.
 #[test]
 fn sixteen_harts_are_inside_one_site(rt: HostRuntime) -> Result<(), Fail> {
-    let gate = CrowdGate::new(rt.alloc(), 16)?;
+    let gate = HoldingGate::new(rt.alloc(), Hold::Crowd(16), LOOKS)?;
     let output = output_of(&rt, SIXTEEN, SIXTEEN_BRANCHES, &gate)?;
     assert!(rt; !gate.has_run_out(&rt));
     assert!(rt; output.starts_with(b"a = 1 2 3 4 5 6 7 8 9 10 11 12 13 14 15 16\n"));
-    let reports = gate.noted().reports(&rt, rt.alloc())?;
-    assert!(rt; reports.len() == 16 && gate.noted().harts(&rt, None) == 16);
+    let reports = gate.reports(&rt, rt.alloc())?;
+    assert!(rt; reports.len() == 16 && gate.harts(&rt, None) == 16);
     assert!(rt; are_brought(rt.alloc(), &output, &reports)?);
     Ok(())
 }

@@ -1,5 +1,5 @@
 //! Runs of teams of several phases, in each of which two harts meet.
-use crate::gates::PhaseGate;
+use crate::gates::{Hold, HoldingGate};
 use crate::meeting::{are_brought, times};
 use crate::runs::{TWO, output_of};
 use std::process::Abort;
@@ -15,10 +15,10 @@ const THREE_PHASES: &[u8] =
 fn meets_in_each_phase<R: AllocGlobal + Abort + Threads + Wait + Sync>(
     rt: &R,
 ) -> Result<bool, Fail> {
-    let gate = PhaseGate::new(rt.alloc(), 1_000_000)?;
+    let gate = HoldingGate::new(rt.alloc(), Hold::Phase, 1_000_000)?;
     let output = output_of(rt, TWO, THREE_PHASES, &gate)?;
     assert!(rt; output.starts_with(b"a = 0 1 2 3\nb = 3 2 1 0\nc = 6 4 2 0\n"));
-    let reports = gate.noted().reports(rt, rt.alloc())?;
+    let reports = gate.reports(rt, rt.alloc())?;
     for phase in 0u8..3 {
         assert!(rt; (0u8..4).all(|place| times(&reports, 1, phase, place) == 1));
     }

@@ -1,7 +1,7 @@
 //! Runs whose members overtake.
 ghost use Rattle.std.specs.Prelude.{◌≤◌};
 
-use crate::gates::{LOOKS, OvertakingGate, Report, Spot};
+use crate::gates::{Hold, HoldingGate, LOOKS, Report, Spot};
 use crate::meeting::{are_brought, times};
 use crate::runs::{NESTED, TURNS, TWO_BRANCHES, output_of};
 use disjoint_check::check;
@@ -31,13 +31,23 @@ const ABOVE: Spot = Spot { phase: 0, place: 1 };
 
 const AHEAD: Spot = Spot { phase: 1, place: 0 };
 
+const WHILE_HELD: Hold = Hold::Overtaking {
+    held: ABOVE,
+    awaited: AHEAD,
+};
+
+const UNTIL_SHARED: Hold = Hold::Overtaking {
+    held: AHEAD,
+    awaited: ABOVE,
+};
+
 #[test]
 fn a_member_goes_on_while_one_above_it_is_held(rt: HostRuntime) -> Result<(), Fail> {
-    let gate = OvertakingGate::new(rt.alloc(), ABOVE, AHEAD, LOOKS)?;
+    let gate = HoldingGate::new(rt.alloc(), WHILE_HELD, LOOKS)?;
     let output = output_of(&rt, PIPE, TWO_STEPS, &gate)?;
     assert!(rt; !gate.has_run_out(&rt));
     assert!(rt; output.starts_with(b"a = 1 2 3 4 5 6\nb = 10 10 20 20 30 30\n"));
-    let reports = gate.noted().reports(&rt, rt.alloc())?;
+    let reports = gate.reports(&rt, rt.alloc())?;
     assert!(rt; are_all_six(&reports));
     assert!(rt; are_brought(rt.alloc(), &output, &reports)?);
     Ok(())
@@ -46,9 +56,9 @@ fn a_member_goes_on_while_one_above_it_is_held(rt: HostRuntime) -> Result<(), Fa
 // Whether another hart begins the member above while the first member is held in its second phase. A guest that came before the
 // first piece was filled, and left, begins nothing.
 fn is_shared<R: AllocGlobal + Threads + Wait + Sync>(rt: &R) -> Result<bool, Fail> {
-    let gate = OvertakingGate::new(rt.alloc(), AHEAD, ABOVE, 1_000_000)?;
+    let gate = HoldingGate::new(rt.alloc(), UNTIL_SHARED, 1_000_000)?;
     let output = output_of(rt, PIPE, TWO_STEPS, &gate)?;
-    let reports = gate.noted().reports(rt, rt.alloc())?;
+    let reports = gate.reports(rt, rt.alloc())?;
     let right = output.starts_with(b"a = 1 2 3 4 5 6\nb = 10 10 20 20 30 30\n");
     if !right || !are_all_six(&reports) {
         return Err(Fail::new("another output, or other pieces"));

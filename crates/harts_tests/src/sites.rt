@@ -23,8 +23,8 @@ use std::sync::Wait;
 use std::test::Fail;
 use step_eval::Nested;
 
-// The hart-local states of two harts, in their order.
-fn two_hart_locals<'x>(
+/// The hart-local states of two harts, in their order.
+pub fn two_hart_locals<'x>(
     alloc: Global,
     claims: &'x Claims,
     seats: Vec<ClaimSeat>,

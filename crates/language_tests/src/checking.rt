@@ -15,105 +15,125 @@ fn refusal(alloc: Global, text: &str) -> Result<Option<CheckFault>, Fail> {
     }
 }
 
-#[test]
-fn names_are_reported_by_their_lines(rt: HostRuntime) -> Result<(), Fail> {
-    let alloc = rt.alloc();
-    let unknown = Some(CheckFault::UnknownName { line: 1 });
-    assert!(rt; refusal(alloc, "a[0] = 1;")? == unknown);
-    let twice = "array a[4];\nfor i in 0..4 {\n  for a in 0..1 { }\n}";
-    let duplicate = Some(CheckFault::DuplicateName { line: 3 });
-    assert!(rt; refusal(alloc, twice)? == duplicate);
-    let siblings = "array a[4];\nfor i in 0..4 { a[i] = i; }\nfor i in 0..4 { a[i] = i; }";
-    assert!(rt; refusal(alloc, siblings)? == None);
-    Ok(())
-}
+// Programs, and the first condition that each fails, if it fails one.
+const REFUSALS: [(&str, Option<CheckFault>); 23] = [
+    // Names are reported by their lines.
+    ("a[0] = 1;", Some(CheckFault::UnknownName { line: 1 })),
+    (
+        "array a[4];\nfor i in 0..4 {\n  for a in 0..1 { }\n}",
+        Some(CheckFault::DuplicateName { line: 3 }),
+    ),
+    (
+        "array a[4];\nfor i in 0..4 { a[i] = i; }\nfor i in 0..4 { a[i] = i; }",
+        None,
+    ),
+    // Constructs stand under an `if`, and three deep.
+    ("array a[1]; if 1 { par { { a[0] = 1; } } }", None),
+    (
+        "par { { par { { par { { par { { } } } } } } } }",
+        Some(CheckFault::TooDeep { level: 4 }),
+    ),
+    // The size is reported.
+    ("for k in 0..4095 { par { { } } }", None),
+    (
+        "for k in 0..4096 { par { { } } }",
+        Some(CheckFault::TooManySites { sites: 4096 }),
+    ),
+    (
+        "for k in 0..257 { team i in 0..0 by 64 { } }",
+        Some(CheckFault::TooManyPieces { pieces: 16448 }),
+    ),
+    (
+        "for k in 0..1048576 { }",
+        Some(CheckFault::TooMuchWork { units: 1_048_577 }),
+    ),
+    ("for k in 0..1048575 { }", None),
+    // Limits are reported in their order.
+    (
+        "array a[4000];\narray b[4097];",
+        Some(CheckFault::BadRange {
+            line: 2,
+            what: Limit::Length,
+            found: 4097,
+        }),
+    ),
+    (
+        "array a[4000];\narray b[97];",
+        Some(CheckFault::BadRange {
+            line: 2,
+            what: Limit::Cells,
+            found: 4097,
+        }),
+    ),
+    (
+        "team i in 0..-1 by 0 { }",
+        Some(CheckFault::BadRange {
+            line: 1,
+            what: Limit::Bounds,
+            found: -1,
+        }),
+    ),
+    (
+        "team i in 0..1 by 65 { }",
+        Some(CheckFault::BadRange {
+            line: 1,
+            what: Limit::Members,
+            found: 65,
+        }),
+    ),
+    // Indices stay inside, on each side of an `if`.
+    (
+        "array a[4]; a[4] = 1;",
+        Some(CheckFault::OutOfRange {
+            line: 1,
+            index: 4,
+            length: 4,
+        }),
+    ),
+    (
+        "array a[4]; if 0 { a[4] = 1; }",
+        Some(CheckFault::OutOfRange {
+            line: 1,
+            index: 4,
+            length: 4,
+        }),
+    ),
+    // So does the index of a loop that has turns.
+    (
+        "array a[4];\nfor i in 0..8 {\na[4] = a[4] + 1; }",
+        Some(CheckFault::OutOfRange {
+            line: 3,
+            index: 4,
+            length: 4,
+        }),
+    ),
+    (
+        "array a[4];\nfor i in 0..8 { a[0 - 1] = i; }",
+        Some(CheckFault::OutOfRange {
+            line: 2,
+            index: -1,
+            length: 4,
+        }),
+    ),
+    ("array a[4]; for i in 0..0 { a[4] = a[4] + 1; }", None),
+    // Branches may share reads alone.
+    (
+        "array a[2]; par { { a[0] = 1; } { a[0] = 2; } }",
+        Some(CheckFault::Overlap { line: 1, cell: 0 }),
+    ),
+    (
+        "array a[2]; array b[2]; par { { b[0] = a[0]; } { b[1] = a[0]; } }",
+        None,
+    ),
+    ("array a[2]; team i in 0..2 by 64 { a[i] = 3; }", None),
+    ("array a[2]; team i in 0..0 by 1 { a[i] = 3; }", None),
+];
 
 #[test]
-fn constructs_stand_under_ifs_and_three_deep(rt: HostRuntime) -> Result<(), Fail> {
-    let alloc = rt.alloc();
-    let under = "array a[1]; if 1 { par { { a[0] = 1; } } }";
-    assert!(rt; refusal(alloc, under)? == None);
-    let deep = "par { { par { { par { { par { { } } } } } } } }";
-    assert!(rt; refusal(alloc, deep)? == Some(CheckFault::TooDeep { level: 4 }));
-    Ok(())
-}
-
-#[test]
-fn size_is_reported(rt: HostRuntime) -> Result<(), Fail> {
-    let alloc = rt.alloc();
-    let sites = Some(CheckFault::TooManySites { sites: 4096 });
-    assert!(rt; refusal(alloc, "for k in 0..4095 { par { { } } }")? == None);
-    assert!(rt; refusal(alloc, "for k in 0..4096 { par { { } } }")? == sites);
-    let pieces = Some(CheckFault::TooManyPieces { pieces: 16448 });
-    assert!(rt; refusal(alloc, "for k in 0..257 { team i in 0..0 by 64 { } }")? == pieces);
-    let units = Some(CheckFault::TooMuchWork { units: 1_048_577 });
-    assert!(rt; refusal(alloc, "for k in 0..1048576 { }")? == units);
-    assert!(rt; refusal(alloc, "for k in 0..1048575 { }")? == None);
-    Ok(())
-}
-
-#[test]
-fn limits_are_reported_in_their_order(rt: HostRuntime) -> Result<(), Fail> {
-    let alloc = rt.alloc();
-    let length = Some(bad(2, Limit::Length, 4097));
-    assert!(rt; refusal(alloc, "array a[4000];\narray b[4097];")? == length);
-    let cells = Some(bad(2, Limit::Cells, 4097));
-    assert!(rt; refusal(alloc, "array a[4000];\narray b[97];")? == cells);
-    let bounds = Some(bad(1, Limit::Bounds, -1));
-    assert!(rt; refusal(alloc, "team i in 0..-1 by 0 { }")? == bounds);
-    let members = Some(bad(1, Limit::Members, 65));
-    assert!(rt; refusal(alloc, "team i in 0..1 by 65 { }")? == members);
-    Ok(())
-}
-
-fn bad(line: u32, what: Limit, found: i64) -> CheckFault {
-    CheckFault::BadRange { line, what, found }
-}
-
-#[test]
-fn indices_stay_inside_under_each_side(rt: HostRuntime) -> Result<(), Fail> {
-    let alloc = rt.alloc();
-    let outside = Some(CheckFault::OutOfRange {
-        line: 1,
-        index: 4,
-        length: 4,
-    });
-    assert!(rt; refusal(alloc, "array a[4]; a[4] = 1;")? == outside);
-    assert!(rt; refusal(alloc, "array a[4]; if 0 { a[4] = 1; }")? == outside);
-    Ok(())
-}
-
-#[test]
-fn the_index_of_a_loop_with_turns_stays_inside(rt: HostRuntime) -> Result<(), Fail> {
-    let alloc = rt.alloc();
-    let behind = "array a[4];\nfor i in 0..8 {\na[4] = a[4] + 1; }";
-    assert!(rt; refusal(alloc, behind)? == outside(3, 4));
-    let before = "array a[4];\nfor i in 0..8 { a[0 - 1] = i; }";
-    assert!(rt; refusal(alloc, before)? == outside(2, -1));
-    let no_turn = "array a[4]; for i in 0..0 { a[4] = a[4] + 1; }";
-    assert!(rt; refusal(alloc, no_turn)?.is_none());
-    Ok(())
-}
-
-fn outside(line: u32, index: i64) -> Option<CheckFault> {
-    Some(CheckFault::OutOfRange {
-        line,
-        index,
-        length: 4,
-    })
-}
-
-#[test]
-fn branches_may_share_reads_alone(rt: HostRuntime) -> Result<(), Fail> {
-    let alloc = rt.alloc();
-    let both_write = "array a[2]; par { { a[0] = 1; } { a[0] = 2; } }";
-    let overlap = Some(CheckFault::Overlap { line: 1, cell: 0 });
-    assert!(rt; refusal(alloc, both_write)? == overlap);
-    let both_read = "array a[2]; array b[2]; par { { b[0] = a[0]; } { b[1] = a[0]; } }";
-    assert!(rt; refusal(alloc, both_read)? == None);
-    let idle_members = "array a[2]; team i in 0..2 by 64 { a[i] = 3; }";
-    assert!(rt; refusal(alloc, idle_members)? == None);
-    assert!(rt; refusal(alloc, "array a[2]; team i in 0..0 by 1 { a[i] = 3; }")? == None);
+fn the_first_condition_that_fails_is_reported(rt: HostRuntime) -> Result<(), Fail> {
+    for (text, fault) in REFUSALS {
+        assert!(rt; refusal(rt.alloc(), text)? == fault, "{text}");
+    }
     Ok(())
 }
 

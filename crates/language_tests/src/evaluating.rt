@@ -7,13 +7,13 @@ use std::alloc::Global;
 use std::test::Fail;
 
 // Whether a program, accepted or not, ends with these array lines.
-fn ends_with(alloc: Global, text: &str, expected: &[u8]) -> Result<bool, Fail> {
+fn ends_with(alloc: Global, text: &str, expected: &str) -> Result<bool, Fail> {
     let program = parsed(alloc, text)?;
-    writes(alloc, &program, expected)
+    writes(alloc, &program, expected.as_bytes())
 }
 
-// Whether the run of a program ends with these array lines.
-fn writes(alloc: Global, program: &Program, expected: &[u8]) -> Result<bool, Fail> {
+/// Whether the run of a program ends with these array lines.
+pub(crate) fn writes(alloc: Global, program: &Program, expected: &[u8]) -> Result<bool, Fail> {
     if !are_sized(&program.arrays) {
         return Err(Fail::new("arrays of no size that a program may have"));
     }
@@ -22,95 +22,73 @@ fn writes(alloc: Global, program: &Program, expected: &[u8]) -> Result<bool, Fai
     Ok(lines.as_slice() == expected)
 }
 
-#[test]
-fn branches_run_from_left_to_right(rt: HostRuntime) -> Result<(), Fail> {
-    let text = "array a[4]; array b[1]; par { { a[0] = 1; } { a[1] = a[0]; } }";
-    let expected = b"a = 1 1 0 0\nb = 0\n".as_slice();
-    assert!(rt; ends_with(rt.alloc(), text, expected)?);
-    Ok(())
-}
-
-#[test]
-fn a_phase_ends_before_the_next_begins(rt: HostRuntime) -> Result<(), Fail> {
-    let text = "array a[6]; array b[6];
-        team i in 0..6 by 3 { a[i] = i + 1; } barrier { b[i] = a[5 - i]; }";
-    let expected = b"a = 1 2 3 4 5 6\nb = 6 5 4 3 2 1\n".as_slice();
-    assert!(rt; ends_with(rt.alloc(), text, expected)?);
-    Ok(())
-}
-
-#[test]
-fn a_dynamic_index_is_reduced(rt: HostRuntime) -> Result<(), Fail> {
-    let text = "array a[4]; array b[1]; b[0] = -1; a[b[0]] = 5;";
-    let expected = b"a = 0 0 0 5\nb = -1\n".as_slice();
-    assert!(rt; ends_with(rt.alloc(), text, expected)?);
-    Ok(())
-}
-
-#[test]
-fn numbers_wrap_and_divide_by_zero(rt: HostRuntime) -> Result<(), Fail> {
-    let text = "array a[3]; a[7 / 0] = 9223372036854775807 + 1; a[2] = -7 % 3;";
-    let expected = b"a = -9223372036854775808 0 -1\n".as_slice();
-    assert!(rt; ends_with(rt.alloc(), text, expected)?);
-    Ok(())
-}
-
-// The names of two arrays have the same digest.
-#[test]
-fn arrays_of_one_digest_are_distinguished(rt: HostRuntime) -> Result<(), Fail> {
-    let text = "array eO0J8aA2qbhs[2]; array d92BRY10am9L[3];
-        d92BRY10am9L[2] = 7; eO0J8aA2qbhs[1] = d92BRY10am9L[2] + 1;";
-    let expected = b"eO0J8aA2qbhs = 0 8\nd92BRY10am9L = 0 0 7\n".as_slice();
-    assert!(rt; ends_with(rt.alloc(), text, expected)?);
-    Ok(())
-}
-
-// The digests of `a`, `gb` and `jy` are equal modulo 256.
-#[test]
-fn arrays_of_one_slot_are_distinguished(rt: HostRuntime) -> Result<(), Fail> {
-    let text = "array b[1]; array a[2]; array gb[2]; array c[1]; array jy[2];
-        a[1] = 1; gb[0] = 2; jy[1] = a[1] + gb[0]; b[0] = jy[1]; c[0] = gb[0];";
-    let expected = b"b = 3\na = 0 1\ngb = 2 0\nc = 2\njy = 0 3\n".as_slice();
-    assert!(rt; ends_with(rt.alloc(), text, expected)?);
-    Ok(())
-}
-
-#[test]
-fn a_loop_writes_one_cell_in_each_turn(rt: HostRuntime) -> Result<(), Fail> {
-    let text = "array a[2]; array s[1];
-        for i in 0..10 { s[0] = s[0] + i; } for i in 0..10 { a[1] = i * i; }";
-    let expected = b"a = 0 81\ns = 45\n".as_slice();
-    assert!(rt; ends_with(rt.alloc(), text, expected)?);
-    Ok(())
-}
-
-// A turn adds the values that the cells have in that turn.
-#[test]
-fn a_loop_adds_cells_that_it_changes(rt: HostRuntime) -> Result<(), Fail> {
-    let text = "array x[2]; array y[4]; x[1] = 1;
+// Programs, and the array lines with which they end.
+const ENDS: [(&str, &str); 10] = [
+    // Branches run from left to right.
+    (
+        "array a[4]; array b[1]; par { { a[0] = 1; } { a[1] = a[0]; } }",
+        "a = 1 1 0 0\nb = 0\n",
+    ),
+    // A phase ends before the next begins.
+    (
+        "array a[6]; array b[6];
+        team i in 0..6 by 3 { a[i] = i + 1; } barrier { b[i] = a[5 - i]; }",
+        "a = 1 2 3 4 5 6\nb = 6 5 4 3 2 1\n",
+    ),
+    // A dynamic index is reduced.
+    (
+        "array a[4]; array b[1]; b[0] = -1; a[b[0]] = 5;",
+        "a = 0 0 0 5\nb = -1\n",
+    ),
+    // Numbers wrap, and are divided by zero.
+    (
+        "array a[3]; a[7 / 0] = 9223372036854775807 + 1; a[2] = -7 % 3;",
+        "a = -9223372036854775808 0 -1\n",
+    ),
+    // The names of two arrays have the same digest.
+    (
+        "array eO0J8aA2qbhs[2]; array d92BRY10am9L[3];
+        d92BRY10am9L[2] = 7; eO0J8aA2qbhs[1] = d92BRY10am9L[2] + 1;",
+        "eO0J8aA2qbhs = 0 8\nd92BRY10am9L = 0 0 7\n",
+    ),
+    // The digests of `a`, `gb` and `jy` are equal modulo 256.
+    (
+        "array b[1]; array a[2]; array gb[2]; array c[1]; array jy[2];
+        a[1] = 1; gb[0] = 2; jy[1] = a[1] + gb[0]; b[0] = jy[1]; c[0] = gb[0];",
+        "b = 3\na = 0 1\ngb = 2 0\nc = 2\njy = 0 3\n",
+    ),
+    // A loop writes one cell in each turn.
+    (
+        "array a[2]; array s[1];
+        for i in 0..10 { s[0] = s[0] + i; } for i in 0..10 { a[1] = i * i; }",
+        "a = 0 81\ns = 45\n",
+    ),
+    // A turn adds the values that the cells have in that turn.
+    (
+        "array x[2]; array y[4]; x[1] = 1;
         for i in 0..5 { x[1] = x[1] + x[1]; } for i in 0..5 { x[0] = x[0] + x[1]; }
-        for i in 0..8 { y[y[0]] = y[y[0]] + 1; } for i in 0..4 { y[2] = y[1] - y[2]; }";
-    let expected = b"x = 160 32\ny = 1 7 0 0\n".as_slice();
-    assert!(rt; ends_with(rt.alloc(), text, expected)?);
-    Ok(())
-}
-
-#[test]
-fn an_inner_loop_writes_the_cell_of_the_outer_turn(rt: HostRuntime) -> Result<(), Fail> {
-    let text = "array a[4]; array c[3];
+        for i in 0..8 { y[y[0]] = y[y[0]] + 1; } for i in 0..4 { y[2] = y[1] - y[2]; }",
+        "x = 160 32\ny = 1 7 0 0\n",
+    ),
+    // An inner loop writes the cell of the outer turn.
+    (
+        "array a[4]; array c[3];
         for i in 0..3 { for j in 0..4 { c[i] = c[i] + j; } }
-        for i in 0..5 { for j in 0..4 { a[j] = a[j] + i * j; } }";
-    let expected = b"a = 0 10 20 30\nc = 6 6 6\n".as_slice();
-    assert!(rt; ends_with(rt.alloc(), text, expected)?);
-    Ok(())
-}
+        for i in 0..5 { for j in 0..4 { a[j] = a[j] + i * j; } }",
+        "a = 0 10 20 30\nc = 6 6 6\n",
+    ),
+    // No check refuses these programs here: a write after the last cell does nothing.
+    (
+        "array a[2];
+        for i in 0..8 { a[5] = a[5] + 1; } for i in 0..8 { a[2] = i; } for i in 3..3 { a[0] = 7; }",
+        "a = 0 0\n",
+    ),
+];
 
-// No check refuses these programs here: a write after the last cell does nothing.
 #[test]
-fn a_loop_writes_no_cell_behind_the_last(rt: HostRuntime) -> Result<(), Fail> {
-    let text = "array a[2];
-        for i in 0..8 { a[5] = a[5] + 1; } for i in 0..8 { a[2] = i; } for i in 3..3 { a[0] = 7; }";
-    let expected = b"a = 0 0\n".as_slice();
-    assert!(rt; ends_with(rt.alloc(), text, expected)?);
+fn programs_end_with_these_arrays(rt: HostRuntime) -> Result<(), Fail> {
+    for (text, expected) in ENDS {
+        assert!(rt; ends_with(rt.alloc(), text, expected)?, "{text}");
+    }
     Ok(())
 }

@@ -6,7 +6,7 @@ use array_eval::{
     Layout, LoopVar, MarkedStore, NoCells, Overlay, Scope, Store, Vars, evaluate, run_assign,
     start_of_member,
 };
-use array_tree::{Arrays, Expr, Name, Op};
+use array_tree::{Name, Program, Stmt};
 use std::alloc::{AllocError, Global};
 use std::test::Fail;
 
@@ -137,7 +137,12 @@ fn the_innermost_variable_is_found_first(rt: HostRuntime) -> Result<(), Fail> {
 // These variables, and inside them the first name as 1, the other as 2 and the first again as 3.
 fn with_three(kept: &Vars, first: &Name, other: &Name) -> Result<Vars, AllocError> {
     let one = kept.with(first, 1)?;
-    let two = one.with(other, 2)?;
+    with_two(&one, first, other)
+}
+
+// These variables, and inside them the other name as 2 and the first as 3.
+fn with_two(kept: &Vars, first: &Name, other: &Name) -> Result<Vars, AllocError> {
+    let two = kept.with(other, 2)?;
     two.with(first, 3)
 }
 
@@ -177,30 +182,33 @@ fn a_stack_of_variables_is_kept(rt: HostRuntime) -> Result<(), Fail> {
 
 // Merges 0 into cell 0 and 5 into cell 2.
 fn supply(alloc: Global, store: &mut MarkedStore) -> Result<(), AllocError> {
-    let mut supply = Overlay::empty(alloc);
-    supply.put(2, 5)?;
-    supply.put(0, 0)?;
+    let mut supply = Overlay::roomy(alloc, 2)?;
+    supply.lay(2, 5);
+    supply.lay(0, 0);
     store.merge(&supply);
     Ok(())
 }
 
-// Runs the assignment of cell 2 of `a` to its cell 3.
-fn assign(alloc: Global, arrays: &Arrays, store: &mut MarkedStore) -> Result<(), Fail> {
-    if !are_sized(arrays) {
+// Runs the program's first statement, an assignment.
+fn assign(alloc: Global, program: &Program, store: &mut MarkedStore) -> Result<(), Fail> {
+    if !are_sized(&program.arrays) {
         return Err(Fail::new("arrays of no size that a program may have"));
     }
-    let value = Expr::Read(Name::new(alloc, b"a")?, Box::new(alloc, Expr::Number(2))?);
-    let a = Name::new(alloc, b"a")?;
-    let layout = Layout::new(alloc, arrays)?;
-    run_assign(
-        &layout,
-        &a,
-        &Expr::Number(3),
-        &value,
-        &Scope::Outermost,
-        store,
-    );
-    Ok(())
+    let layout = Layout::new(alloc, &program.arrays)?;
+    match program.body.statements.first() {
+        Some(
+            Stmt::Assign {
+                array,
+                index,
+                value,
+                ..
+            },
+        ) => {
+            run_assign(&layout, array, index, value, &Scope::Outermost, store);
+            Ok(())
+        }
+        _ => Err(Fail::new("the text is no assignment")),
+    }
 }
 
 // Whether a store of four cells has 5 in its last cell.
@@ -239,10 +247,10 @@ fn knows_what_was_written(alloc: Global, marked: &mut MarkedStore) -> Result<boo
 #[test]
 fn a_store_knows_what_was_written(rt: HostRuntime) -> Result<(), Fail> {
     let alloc = rt.alloc();
-    let program = parsed(alloc, "array a[4];")?;
+    let program = parsed(alloc, "array a[4]; a[3] = a[2];")?;
     let mut marked = MarkedStore::new(alloc, &Store::zero(alloc, 4)?)?;
     supply(alloc, &mut marked)?;
-    assign(alloc, &program.arrays, &mut marked)?;
+    assign(alloc, &program, &mut marked)?;
     assert!(rt; knows_what_was_written(alloc, &mut marked)?);
     Ok(())
 }
@@ -252,7 +260,14 @@ fn written_at(alloc: Global, start: &Store, cell: u16) -> Result<Store, Fail>
     ensures { IfOk result (λ store. length store ≡ 130) }
 {
     let mut marked = MarkedStore::new(alloc, start)?;
-    put_nine(alloc, &mut marked, cell)?;
+    taken(alloc, &mut marked, cell)
+}
+
+// The store that is taken from this one, of 130 cells, once the cell is written.
+fn taken(alloc: Global, marked: &mut MarkedStore, cell: u16) -> Result<Store, Fail>
+    ensures { IfOk result (λ store. length store ≡ 130) }
+{
+    put_nine(alloc, marked, cell)?;
     if marked.count() != 130 {
         return Err(Fail::new("another number of cells"));
     }
@@ -261,8 +276,8 @@ fn written_at(alloc: Global, start: &Store, cell: u16) -> Result<Store, Fail>
 
 // Merges 9 into a cell.
 fn put_nine(alloc: Global, marked: &mut MarkedStore, cell: u16) -> Result<(), AllocError> {
-    let mut supply = Overlay::empty(alloc);
-    supply.put(cell, 9)?;
+    let mut supply = Overlay::roomy(alloc, 1)?;
+    supply.lay(cell, 9);
     marked.merge(&supply);
     Ok(())
 }
@@ -304,28 +319,28 @@ fn a_marked_store_is_read_over_its_store(rt: HostRuntime) -> Result<(), Fail> {
     Ok(())
 }
 
-// The sum of 2 and a cell of `a`, with no cell to read, and with the cells of a store.
-fn sums(alloc: Global, arrays: &Arrays, store: &MarkedStore) -> Result<(i64, i64), Fail> {
-    if !are_sized(arrays) {
+// The value of the program's first assignment, with no cell to read, and with the cells of a store.
+fn sums(alloc: Global, program: &Program, store: &MarkedStore) -> Result<(i64, i64), Fail> {
+    if !are_sized(&program.arrays) {
         return Err(Fail::new("arrays of no size that a program may have"));
     }
-    let cell = Expr::Read(Name::new(alloc, b"a")?, Box::new(alloc, Expr::Number(3))?);
-    let two = Box::new(alloc, Expr::Number(2))?;
-    let sum = Expr::Binary(Op::Add, two, Box::new(alloc, cell)?);
-    let layout = Layout::new(alloc, arrays)?;
-    Ok((
-        evaluate(&layout, &sum, &Scope::Outermost, &NoCells),
-        evaluate(&layout, &sum, &Scope::Outermost, store),
-    ))
+    let layout = Layout::new(alloc, &program.arrays)?;
+    match program.body.statements.first() {
+        Some(Stmt::Assign { value, .. }) => Ok((
+            evaluate(&layout, value, &Scope::Outermost, &NoCells),
+            evaluate(&layout, value, &Scope::Outermost, store),
+        )),
+        _ => Err(Fail::new("the text is no assignment")),
+    }
 }
 
 #[test]
 fn an_expression_is_evaluated_without_cells(rt: HostRuntime) -> Result<(), Fail> {
     let alloc = rt.alloc();
-    let program = parsed(alloc, "array a[4];")?;
+    let program = parsed(alloc, "array a[4]; a[0] = 2 + a[3];")?;
     let mut marked = MarkedStore::new(alloc, &Store::zero(alloc, 4)?)?;
     put_nine(alloc, &mut marked, 3)?;
-    let (without, with) = sums(alloc, &program.arrays, &marked)?;
+    let (without, with) = sums(alloc, &program, &marked)?;
     assert_eq!(rt; (without, with), (2, 11));
     Ok(())
 }

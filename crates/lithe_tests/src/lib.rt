@@ -1,21 +1,26 @@
-//! Tests of the top call and of the streams outside, by public calls alone. Begin with `runs.rt`.
+//! Tests of the calls `lithe` and `serve_picture` that aren't data of `case_runs`: runs on up to 16 harts, outputs that are
+//! audited again, and streams of the host. Begin with `examples.rt`.
 #![tactic(auto)]
 
 #[cfg(test)]
 mod alone;
 #[cfg(test)]
-mod audits;
+mod choices;
 #[cfg(test)]
-mod made;
+mod examples;
 #[cfg(test)]
-mod runs;
+mod overtaking;
+#[cfg(test)]
+mod pictures;
+#[cfg(test)]
+mod prefixes;
 #[cfg(test)]
 mod serving;
 #[cfg(test)]
+mod statuses;
+#[cfg(test)]
 mod streams;
 #[cfg(test)]
-mod syntax;
+mod sums;
 #[cfg(test)]
 mod wide;
-#[cfg(test)]
-mod words;

@@ -1,15 +1,29 @@
 //! Streams that fail, by themselves and under the top call.
-use crate::serving::{ROOM, RUN, SOLO, USAGE, serve_source, status_of, took};
+use crate::serving::{RUN, Served, open, status_of};
 use lithe_call::{Status, no_form_for_words, no_memory_for_words, printed_bytes_are_served};
 use outside_io::{Fill, Put, Sink, Source, StdSink, StdSource, SureSink, SureSource};
 use std::alloc::Global;
 use std::io::{self, Error, ErrorKind, Read, Write};
-use std::process::Abort;
 use std::sync::Wait;
 use std::test::Fail;
 use std::thread::Threads;
 
 const PROGRAM: &[u8] = b"array a[2]; a[1] = 7;";
+
+// The room of each sink, in bytes.
+const ROOM: usize = 4096;
+
+// The text for words that are no form.
+const USAGE: &[u8] =
+    b"usage: lithe_run run --harts N\n       lithe_run solo\n       lithe_run audit --harts N\n       lithe_run make --seed X --size K --harts N\n       lithe_run tally --harts N\n       lithe_run pipe --harts N\n";
+
+// Whether a sink took exactly this, all within its room.
+fn took(sink: &SureSink, bytes: &[u8]) -> bool {
+    match sink.bytes() {
+        Some(taken) => taken == bytes,
+        None => false,
+    }
+}
 
 /// A stream that fails once it has given its bytes.
 #[derive(Drop)]
@@ -112,27 +126,21 @@ fn broken_off(kind: ErrorKind) -> StdSource<Torn> {
     })
 }
 
-// Serves such a source, and checks that the result is a read fault.
-fn read_fault<R: AllocGlobal + Abort + Threads + Wait + Sync>(
-    rt: &R,
-    kind: ErrorKind,
-) -> Result<(), Fail> {
+// The results of serving such a source.
+fn served<R: AllocGlobal + Threads + Wait + Sync>(rt: &R, kind: ErrorKind) -> Result<Served, Fail> {
     let mut source = broken_off(kind);
-    serve_source(
-        rt,
-        RUN,
-        &mut source,
-        Status::ReadFault,
-        b"",
-        b"read fault\n",
-    )
+    let mut out = open(rt.alloc(), 16)?;
+    let mut err = open(rt.alloc(), 16)?;
+    let status = status_of(rt, RUN, &mut source, &mut out, &mut err)?;
+    Ok(Served { status, out, err })
 }
 
 #[test]
 fn an_input_that_breaks_off_is_a_read_fault(rt: HostRuntime) -> Result<(), Fail> {
-    read_fault(&rt, ErrorKind::Other)?;
-    read_fault(&rt, ErrorKind::Interrupted)?;
-    assert!(rt; Status::ReadFault.number() == 6);
+    for kind in [ErrorKind::Other, ErrorKind::Interrupted] {
+        let served = served(&rt, kind)?;
+        assert!(rt; served.is(Status::ReadFault, b"", b"read fault\n"));
+    }
     Ok(())
 }
 
@@ -144,7 +152,7 @@ fn solo_into<R: AllocGlobal + Threads + Wait + Sync>(
 ) -> Result<Status, Fail> {
     let mut source = StdSource::new(PROGRAM);
     let mut out = StdSink::new(stream);
-    status_of(rt, SOLO, &mut source, &mut out, err)
+    status_of(rt, &["solo"], &mut source, &mut out, err)
 }
 
 // Whether a stream that takes five bytes of the output leads to a write fault, which is reported.

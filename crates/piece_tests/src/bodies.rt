@@ -6,7 +6,6 @@ use array_jobs::{Job, Piece, body_job, piece_of, sites_in};
 use disjoint_check::{Accepted, check};
 use sample_programs::parsed;
 use std::alloc::{AllocError, Global};
-use std::process::Abort;
 use std::test::Fail;
 
 // Whether the machine of a program's body writes this.
@@ -38,80 +37,65 @@ fn both_write(alloc: Global, text: &[u8], expected: &[(u16, i64)]) -> Result<boo
     Ok(by_machine && by_piece)
 }
 
-// Fails unless the machine of a program's body writes this, and its piece the same.
-fn expect_writes(
-    rt: &impl Abort,
-    alloc: Global,
-    text: &[u8],
-    expected: &[(u16, i64)],
-) -> Result<(), Fail> {
-    assert!(rt; both_write(alloc, text, expected)?);
-    Ok(())
-}
-
-#[test]
-fn a_team_inside_a_branch(rt: HostRuntime) -> Result<(), Fail> {
-    let text = b"array low[4]; array high[4];
+// What each program shows, its text, and the writes of its body.
+const BODIES: &[(&str, &[u8], &[(u16, i64)])] = &[
+    (
+        "a team inside a branch",
+        b"array low[4]; array high[4];
         par {
           { team i in 0..4 by 2 { low[i] = i + 1; } }
           { high[0] = 10;
             par { { high[1] = high[0] * 2; } { high[2] = high[0] * 3; } }
             high[3] = high[1] + high[2]; }
-        }";
-    let expected = [
-        (0, 1),
-        (1, 2),
-        (2, 3),
-        (3, 4),
-        (4, 10),
-        (5, 20),
-        (6, 30),
-        (7, 50),
-    ];
-    expect_writes(&rt, rt.alloc(), text.as_slice(), expected.as_slice())
-}
-
-#[test]
-fn a_phase_reads_what_the_one_before_wrote(rt: HostRuntime) -> Result<(), Fail> {
-    let text = b"array a[4]; array b[4];
-        team i in 0..4 by 2 { a[i] = i * i; } barrier { b[i] = a[3 - i]; }";
-    let expected = [
-        (0, 0),
-        (1, 1),
-        (2, 4),
-        (3, 9),
-        (4, 9),
-        (5, 4),
-        (6, 1),
-        (7, 0),
-    ];
-    expect_writes(&rt, rt.alloc(), text.as_slice(), expected.as_slice())
-}
-
-#[test]
-fn a_construct_in_each_turn_of_a_loop(rt: HostRuntime) -> Result<(), Fail> {
-    let text = b"array even[1]; array odd[1];
+        }",
+        &[
+            (0, 1),
+            (1, 2),
+            (2, 3),
+            (3, 4),
+            (4, 10),
+            (5, 20),
+            (6, 30),
+            (7, 50),
+        ],
+    ),
+    (
+        "a phase reads what the one before wrote",
+        b"array a[4]; array b[4];
+        team i in 0..4 by 2 { a[i] = i * i; } barrier { b[i] = a[3 - i]; }",
+        &[
+            (0, 0),
+            (1, 1),
+            (2, 4),
+            (3, 9),
+            (4, 9),
+            (5, 4),
+            (6, 1),
+            (7, 0),
+        ],
+    ),
+    (
+        "a construct in each turn of a loop",
+        b"array even[1]; array odd[1];
         for turn in 0..3 {
           par { { even[0] = even[0] + 2 * turn; } { odd[0] = odd[0] + 2 * turn + 1; } }
-        }";
-    expect_writes(
-        &rt,
-        rt.alloc(),
-        text.as_slice(),
-        [(0, 6), (1, 9)].as_slice(),
-    )
-}
+        }",
+        &[(0, 6), (1, 9)],
+    ),
+    (
+        "a loop in a choice",
+        b"array a[4];
+        if a[3] == 0 { for i in 1..3 { a[i] = a[i - 1] + i; } } else { a[0] = 9; }",
+        &[(1, 1), (2, 3)],
+    ),
+];
 
 #[test]
-fn a_loop_in_a_choice(rt: HostRuntime) -> Result<(), Fail> {
-    let text = b"array a[4];
-        if a[3] == 0 { for i in 1..3 { a[i] = a[i - 1] + i; } } else { a[0] = 9; }";
-    expect_writes(
-        &rt,
-        rt.alloc(),
-        text.as_slice(),
-        [(1, 1), (2, 3)].as_slice(),
-    )
+fn a_body_writes_as_its_text_says(rt: HostRuntime) -> Result<(), Fail> {
+    for (shows, text, expected) in BODIES {
+        assert!(rt; both_write(rt.alloc(), text, expected)?, "{shows}");
+    }
+    Ok(())
 }
 
 // Whether a copy is equal to a job and has one site.

@@ -1,10 +1,8 @@
-//! Tests of pipelines: the check of crossings, the state of a pipeline, and its scheduler, by itself and through hands.
+//! Tests of pipelines: the state of a pipeline, and its scheduler, by itself and through hands.
 //!
 //! Why a crate of its own: a crate is proved a second time with its tests.
 #![tactic(auto)]
 
-#[cfg(test)]
-mod crossings;
 #[cfg(test)]
 mod hands;
 #[cfg(test)]

@@ -2,8 +2,9 @@
 use crate::harts::{Answer, finds, gives, kept, next_piece, pipe_of, puts_back};
 use crate::samples::{BOTH_STEPS, TWO_STEPS};
 use pipe_sched::Pipe;
-use sample_programs::{Came, TOLD, first_jobs, outcome_of, parsed, piece_at, receipts};
+use sample_programs::{Came, first_jobs, outcome_of, parsed, piece_at};
 use sched_api::Scheduler;
+use scheduler_samples::{TOLD, receipts};
 use std::alloc::Global;
 use std::test::Fail;
 

@@ -18,7 +18,3 @@ pub const BOTH_STEPS: [(u16, i64); 12] = [
     (10, 30),
     (11, 30),
 ];
-
-/// A wavefront: each member goes on from the cell that the member below it wrote.
-pub const WAVEFRONT: &[u8] = b"array a[4]; array b[4]; array c[4];
-    team i in 1..4 by 3 { a[i] = i; } barrier { b[i] = a[i - 1] + a[i]; } barrier { c[i] = b[i - 1] * 2 + b[i]; }";

@@ -7,10 +7,9 @@ use array_jobs::{Piece, copy_jobs};
 use array_tree::Program;
 use deque_rows::{HartRows, rows};
 use forkjoin_sched::{PoolHand, SharedPool};
-use sample_programs::{
-    Answer, Came, TOLD, TWO_BRANCHES, outcome_of, parsed, piece_at, receipts, waiting,
-};
+use sample_programs::{Came, TWO_BRANCHES, outcome_of, parsed, piece_at, waiting};
 use sched_api::{Scheduler, Told};
+use scheduler_samples::{Answer, TOLD, receipts};
 use std::alloc::Global;
 use std::sync::Wait;
 use std::test::Fail;

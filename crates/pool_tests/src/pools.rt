@@ -5,9 +5,10 @@ use array_tree::Program;
 use contexts::Paused;
 use forkjoin_sched::{Pool, PoolWork};
 use sample_programs::{
-    Answer, BOTH_BRANCHES, Came, TWO_BRANCHES, first_jobs, outcome_of, parsed, piece_at, waiting,
+    BOTH_BRANCHES, Came, TWO_BRANCHES, first_jobs, outcome_of, parsed, piece_at, waiting,
 };
 use sched_api::{Call, Hearing, Next, Scheduler};
+use scheduler_samples::Answer;
 use std::alloc::Global;
 use std::test::Fail;
 use step_eval::StepMachine;

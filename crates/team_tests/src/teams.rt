@@ -10,9 +10,10 @@ use array_jobs::{Job, Piece};
 use lithe_barrier::Arrival;
 use loop_team::Team;
 use sample_programs::{
-    Answer, BOTH_PHASES, FIRST_PHASE, SECOND_PHASE, TWO_PHASES, first_jobs, parsed, piece_at,
+    BOTH_PHASES, FIRST_PHASE, SECOND_PHASE, TWO_PHASES, first_jobs, parsed, piece_at,
 };
 use sched_api::Scheduler;
+use scheduler_samples::Answer;
 use std::alloc::Global;
 use std::test::Fail;
 

@@ -1,0 +1,5 @@
+use Rattle.deque_rows.proofs.Callers.{one_moved}
+use Rattle.board_tests.proofs.deque_moves.pop_at.Goals as goal
+
+pub returns : goal.returns
+returns c = one_moved c.args.rows.now c.args.hart c.pop.new.self c.index-rows-hart.result c.pop.ensures.identity

@@ -1,0 +1,6 @@
+use Rattle.std.proofs.Common.{◌≡◌}
+use Rattle.deque_rows.specs.Rows.{identity}
+use Rattle.board_tests.proofs.deque_moves.put.Given as goal
+
+abbrev pub invariant-loop-code : goal.invariant-loop-code
+invariant-loop-code l = identity l.rows ≡ identity l.initial.rows

@@ -1,0 +1,2 @@
+-- Definitions for the tests' contracts.
+pub mod Family
