@@ -22,8 +22,6 @@
 
 mod holds;
 mod run;
-#[cfg(test)]
-mod tests;
 
 pub use holds::Holds;
 pub use run::{fork_join_as, join_as};

@@ -1,5 +1,5 @@
 //! Tasks of one kind on the harts of another.
-ghost use Rattle.std.specs.Prelude.{◌≡◌, ◌<◌, ◌⊎◌, List, All, map, IfOk, IfErr, alloc_error};
+ghost use Rattle.std.specs.Prelude.{◌≡◌, ◌<◌, ◌⊎◌, List, [], All, map, IsOk, IfOk, IfErr, alloc_error};
 ghost use Rattle.std.specs.List.{AllZip};
 ghost use Rattle.held_tasks.specs.Two.{FailsOfTwo};
 ghost use Rattle.tasks.specs.Failures.{FirstFailure};
@@ -12,7 +12,7 @@ use tasks::{Harts, TaskKind};
 ///
 /// # Errors
 ///
-/// The error of the first task, in the order of the list, that failed, or an allocation failure.
+/// The error of the first task, in the order of the list, that failed, or an allocation failure. None if the list is empty.
 ///
 /// # Memory
 ///
@@ -26,6 +26,7 @@ pub fn fork_join_as<T: TaskKind, V: Holds<T>, H: Harts<V>>(
     ensures outputs { IfOk result (λ outputs. AllZip T.gives tasks.items outputs.items) }
     ensures error { IfErr result (λ error. FirstFailure T.gives T.fails tasks.items error
         ⊎ T.Error.from_gives alloc_error error) }
+    ensures no_tasks { tasks.items ≡ [] → IsOk result }
     ensures levels { H.levels harts.new ≡ H.levels harts.old }
 {
     let held = hold_all::<T, V>(alloc, tasks)?;
@@ -76,7 +77,8 @@ pub fn join_as<T: TaskKind, V: Holds<T>, H: Harts<V>>(
 
 // Each task, as a task of the other kind.
 fn hold_all<T: TaskKind, V: Holds<T>>(alloc: Global, tasks: Vec<T>) -> Result<Vec<V>, AllocError>
-    ensures { IfOk result (λ held. held.items ≡ map V.held tasks.items) }
+    ensures held { IfOk result (λ held. held.items ≡ map V.held tasks.items) }
+    ensures no_tasks { tasks.items ≡ [] → IsOk result }
 {
     let mut held = Vec::with_capacity(alloc, tasks.len())?;
     let mut rest = tasks.into_iter();
@@ -93,8 +95,9 @@ fn own_outputs<T: TaskKind, V: Holds<T>>(
 ) -> Result<Vec<T::Output>, AllocError>
     requires { (tasks : List T) × AllZip (λ task output. V.gives (V.held task) output)
         tasks outputs.items }
-    ensures { IfOk result (λ own. (tasks : List T) → AllZip (λ task output. V.gives (V.held task) output)
+    ensures own { IfOk result (λ own. (tasks : List T) → AllZip (λ task output. V.gives (V.held task) output)
         tasks outputs.items → AllZip T.gives tasks own.items) }
+    ensures no_outputs { outputs.items ≡ [] → IsOk result }
 {
     let mut own = Vec::with_capacity(alloc, outputs.len())?;
     let mut rest = outputs.into_iter();

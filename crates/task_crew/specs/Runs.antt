@@ -10,7 +10,7 @@ use Rattle.open_board.specs.declared.ending.NotEnded.TheVariants.{WrongCount, Ou
 use Rattle.open_board.specs.Ending.{HasFinished, IsHomeAgain}
 use Rattle.open_board.specs.Of.{IsOf}
 use Rattle.task_crew.specs.declared.error.RunError.{RunError}
-use Rattle.task_crew.specs.declared.error.RunError.TheVariants.{HartCount, LevelCount, Task, NotEnded}
+use Rattle.task_crew.specs.declared.error.RunError.TheVariants.{HartCount, LevelCount, Task}
 
 -- A reason why a board of so many harts does not end, as the caller of a run sees it.
 abbrev pub IsReason : ℕ → Cause → Type 0
@@ -19,12 +19,12 @@ IsReason harts (OutOfOrder position hart) = (position < harts) × (hart ≢ posi
 IsReason harts (InSite hart site) = (hart < harts) × (site ≢ 0)
 
 -- Why a run on so many harts with so many levels, of at most `most`, has no output: there are no harts or more than 64, there
--- are more levels than `most`, the task failed or an allocation failed, or the board refused to end.
+-- are more levels than `most`, or, with numbers in range, the task failed or an allocation failed.
 abbrev pub RunFails : {E : Type 0} → ℕ → ℕ → ℕ → (E → Type 0) → (E → Type 0) → RunError E → Type 0
 RunFails most harts levels fails memory (HartCount n) = (n ≡ harts) × ((harts ≡ 0) ⊎ (64 < harts))
-RunFails most harts levels fails memory (LevelCount n) = (n ≡ levels) × (most < levels)
-RunFails most harts levels fails memory (Task error) = fails error ⊎ memory error
-RunFails most harts levels fails memory (NotEnded why) = IsReason harts why
+RunFails most harts levels fails memory (LevelCount n) = (n ≡ levels) × (1 ≤ harts) × (harts ≤ 64) × (most < levels)
+RunFails most harts levels fails memory (Task error) =
+    (1 ≤ harts) × (harts ≤ 64) × (levels ≤ most) × (fails error ⊎ memory error)
 
 -- With these seats a board of this size has ended: each of its harts is at the base again, and all that the harts did is a list
 -- of entries that the table of lent harts admits, after which no site is live.

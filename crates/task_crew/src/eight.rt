@@ -1,15 +1,17 @@
 //! Runs with at most eight levels.
 ghost use Rattle.std.specs.Prelude.{◌≡◌, ◌<◌, ◌≤◌, ◌⊎◌, IfOk, IfErr, alloc_error, Err};
+ghost use Rattle.task_table.specs.Slots.{Ends};
 ghost use Rattle.task_crew.specs.Runs.{RunFails, AreSeated};
 
 use crate::error::RunError;
-use crate::run::{FourMore, MOST_HARTS, Run, run_four_more};
+use crate::run::{FourMore, MOST_HARTS, Run, ran, run_four_more};
 use open_board::OpenBoard;
 use std::alloc::Global;
 use std::marker::Brand;
 use std::sync::Wait;
 use std::thread::Threads;
 use task_sites::{Naming, NoLevel, Observer, Unobserved};
+use task_table::Outcome;
 use tasks::Task;
 
 // The most levels of these runs.
@@ -49,7 +51,7 @@ where
     run_observed_eight_levels::<T, Unobserved<'_, R>>(&unobserved, alloc, harts, levels, task)
 }
 
-/// Runs a task as [`run_on_eight_levels`] does, with an observer: `rt` gets a call when a task begins and when it ends.
+/// Runs a task as [`run_on_eight_levels`] does, with an observer, as [`run_observed`](crate::run_observed).
 ///
 /// # Errors
 ///
@@ -83,7 +85,7 @@ where
         return Err(RunError::LevelCount(levels));
     }
     match OpenBoard::new(alloc, harts, levels.max(1)) {
-        Ok((board, seats)) => run_eight::<Brand, T, R>(
+        Ok((board, seats)) => ran(run_eight::<Brand, T, R>(
             rt,
             Run {
                 alloc,
@@ -92,13 +94,13 @@ where
                 levels,
                 task,
             },
-        ),
+        )),
         Err(error) => Err(RunError::Task(T::Error::from(error))),
     }
 }
 
 // Runs a task on the harts of a board, with at most eight levels, and ends the board.
-fn run_eight<B, T, R>(rt: &R, run: Run<T>) -> Result<T::Output, RunError<T::Error>>
+fn run_eight<B, T, R>(rt: &R, run: Run<T>) -> Outcome<T>
 where
     B: Naming + Send + Sync,
     T: Task + Send,
@@ -108,9 +110,7 @@ where
     requires seated { AreSeated B.table B.size run.board run.seats.items }
     requires depth { T.depth run.task ≤ run.levels }
     requires levels { run.levels ≤ 8 }
-    ensures output { IfOk result (λ output. T.gives run.task output) }
-    ensures error { IfErr result
-        (RunFails 8 run.board.size.harts run.levels (T.fails run.task) (T.Error.from_gives alloc_error)) }
+    ensures { Ends T.gives T.fails (T.Error.from_gives alloc_error) run.task result }
 {
     run_four_more::<B, T, R, FourMore<NoLevel>>(rt, run)
 }

@@ -1,5 +1,4 @@
 //! Why a run has no output.
-use open_board::NotEnded;
 
 /// Why a run has no output.
 #[derive(Debug, Drop, PartialEq)]
@@ -10,6 +9,4 @@ pub enum RunError<E> {
     LevelCount(u8),
     /// The task failed with this error, or an allocation failed.
     Task(E),
-    /// All tasks have ended, but the board did not, since a hart is still in a site.
-    NotEnded(NotEnded),
 }

@@ -9,7 +9,7 @@
 //!
 //! # Example
 //!
-//! From `crew_tests/src/lengths.rt`: a text's length, by tasks that cut it at most six times, on `harts` harts.
+//! From `task_tests/src/lengths.rt`: a text's length, by tasks that cut it at most six times, on `harts` harts.
 //!
 //! ```text
 //! run_on(rt, alloc, harts, 6, Length { text, cuts: 6 })

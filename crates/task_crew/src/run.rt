@@ -1,5 +1,5 @@
 //! The harts of a run.
-ghost use Rattle.std.specs.Prelude.{◌≡◌, ◌<◌, ◌≤◌, ◌+◌, ◌⊎◌, ℕ, IfOk, IfErr, vec_len, alloc_error, Err, []};
+ghost use Rattle.std.specs.Prelude.{◌≡◌, ◌<◌, ◌≤◌, ◌+◌, ◌⊎◌, ℕ, Ok, IfOk, IfErr, MatchResult, vec_len, vec_capacity, alloc_error, Err, []};
 ghost use Rattle.std.specs.List.{All};
 ghost use Rattle.open_board.specs.Of.{IsOf};
 ghost use Rattle.task_table.specs.Slots.{Ends};
@@ -35,8 +35,7 @@ pub(crate) struct Run<T> {
 pub(crate) type FourMore<L> = OneMore<OneMore<OneMore<OneMore<L>>>>;
 
 /// Runs a task on `harts` harts, with at most `levels` levels of tasks inside it, and returns its output. `harts` is 1 to 64,
-/// and `levels` is 0 to 16. When it returns, all tasks have ended, and all threads that it started. If it doesn't return
-/// `NotEnded`, then by the contract of `go_home` each hart is at the base again, with transfers that the table admits.
+/// and `levels` is 0 to 16. When it returns, all tasks have ended, and all threads that it started.
 ///
 /// Levels beyond the depth of the task cost memory alone. The task, its output and its error are `Send`, so what the task borrows
 /// is `Sync`.
@@ -44,7 +43,7 @@ pub(crate) type FourMore<L> = OneMore<OneMore<OneMore<OneMore<L>>>>;
 /// # Errors
 ///
 /// `HartCount` and `LevelCount` exactly if the number is out of range; nothing is started then. `Task` if the task fails or an
-/// allocation fails. `NotEnded` if the board doesn't end, since a hart is still in a site.
+/// allocation fails. There is no other error: the outcome of a task that has ended is always returned.
 ///
 /// # Memory
 ///
@@ -69,16 +68,14 @@ where
         ≡ Err (RunError.LevelCount levels) }
 {
     if harts == 1 && levels <= MOST_LEVELS {
-        return match run_alone(alloc, task) {
-            Ok(output) => Ok(output),
-            Err(error) => Err(RunError::Task(error)),
-        };
+        return ran(run_alone(alloc, task));
     }
     let unobserved = Unobserved::new(rt);
     run_observed::<T, Unobserved<'_, R>>(&unobserved, alloc, harts, levels, task)
 }
 
-/// Runs a task as [`run_on`] does, with an observer: `rt` gets a call when a task begins and when it ends.
+/// Runs a task as [`run_on`] does, with an observer: `rt` gets a call when a task begins and when it ends, and if a hart is still
+/// in a site at the end.
 ///
 /// # Errors
 ///
@@ -112,7 +109,7 @@ where
         return Err(RunError::LevelCount(levels));
     }
     match OpenBoard::new(alloc, harts, levels.max(1)) {
-        Ok((board, seats)) => run_sixteen::<Brand, T, R>(
+        Ok((board, seats)) => ran(run_sixteen::<Brand, T, R>(
             rt,
             Run {
                 alloc,
@@ -121,13 +118,24 @@ where
                 levels,
                 task,
             },
-        ),
+        )),
         Err(error) => Err(RunError::Task(T::Error::from(error))),
     }
 }
 
+/// The result of a run whose task has ended.
+pub(crate) fn ran<O, E>(outcome: Result<O, E>) -> Result<O, RunError<E>>
+    ensures { MatchResult outcome (λ output. result ≡ Ok output)
+        (λ error. result ≡ Err (RunError.Task error)) }
+{
+    match outcome {
+        Ok(output) => Ok(output),
+        Err(error) => Err(RunError::Task(error)),
+    }
+}
+
 // Runs a task on the harts of a board, with at most sixteen levels, and ends the board.
-fn run_sixteen<B, T, R>(rt: &R, run: Run<T>) -> Result<T::Output, RunError<T::Error>>
+fn run_sixteen<B, T, R>(rt: &R, run: Run<T>) -> Outcome<T>
 where
     B: Naming + Send + Sync,
     T: Task + Send,
@@ -137,15 +145,13 @@ where
     requires seated { AreSeated B.table B.size run.board run.seats.items }
     requires depth { T.depth run.task ≤ run.levels }
     requires levels { run.levels ≤ 16 }
-    ensures output { IfOk result (λ output. T.gives run.task output) }
-    ensures error { IfErr result
-        (RunFails 16 run.board.size.harts run.levels (T.fails run.task) (T.Error.from_gives alloc_error)) }
+    ensures { Ends T.gives T.fails (T.Error.from_gives alloc_error) run.task result }
 {
     run_twelve_more::<B, T, R, FourMore<NoLevel>>(rt, run)
 }
 
 // The same, with at most twelve levels more than `L`.
-fn run_twelve_more<B, T, R, L>(rt: &R, run: Run<T>) -> Result<T::Output, RunError<T::Error>>
+fn run_twelve_more<B, T, R, L>(rt: &R, run: Run<T>) -> Outcome<T>
 where
     B: Naming + Send + Sync,
     T: Task + Send,
@@ -156,15 +162,13 @@ where
     requires seated { AreSeated B.table B.size run.board run.seats.items }
     requires depth { T.depth run.task ≤ run.levels }
     requires levels { run.levels ≤ 12 + L.count }
-    ensures output { IfOk result (λ output. T.gives run.task output) }
-    ensures error { (most : ℕ) → IfErr result
-        (RunFails most run.board.size.harts run.levels (T.fails run.task) (T.Error.from_gives alloc_error)) }
+    ensures { Ends T.gives T.fails (T.Error.from_gives alloc_error) run.task result }
 {
     run_eight_more::<B, T, R, FourMore<L>>(rt, run)
 }
 
 // The same, with at most eight levels more than `L`.
-fn run_eight_more<B, T, R, L>(rt: &R, run: Run<T>) -> Result<T::Output, RunError<T::Error>>
+fn run_eight_more<B, T, R, L>(rt: &R, run: Run<T>) -> Outcome<T>
 where
     B: Naming + Send + Sync,
     T: Task + Send,
@@ -175,18 +179,13 @@ where
     requires seated { AreSeated B.table B.size run.board run.seats.items }
     requires depth { T.depth run.task ≤ run.levels }
     requires levels { run.levels ≤ 8 + L.count }
-    ensures output { IfOk result (λ output. T.gives run.task output) }
-    ensures error { (most : ℕ) → IfErr result
-        (RunFails most run.board.size.harts run.levels (T.fails run.task) (T.Error.from_gives alloc_error)) }
+    ensures { Ends T.gives T.fails (T.Error.from_gives alloc_error) run.task result }
 {
     run_four_more::<B, T, R, FourMore<L>>(rt, run)
 }
 
 /// The same, with at most four levels more than `L`.
-pub(crate) fn run_four_more<B, T, R, L>(
-    rt: &R,
-    run: Run<T>,
-) -> Result<T::Output, RunError<T::Error>>
+pub(crate) fn run_four_more<B, T, R, L>(rt: &R, run: Run<T>) -> Outcome<T>
 where
     B: Naming + Send + Sync,
     T: Task + Send,
@@ -197,15 +196,14 @@ where
     requires seated { AreSeated B.table B.size run.board run.seats.items }
     requires depth { T.depth run.task ≤ run.levels }
     requires levels { run.levels ≤ 4 + L.count }
-    ensures output { IfOk result (λ output. T.gives run.task output) }
-    ensures error { (most : ℕ) → IfErr result
-        (RunFails most run.board.size.harts run.levels (T.fails run.task) (T.Error.from_gives alloc_error)) }
+    ensures { Ends T.gives T.fails (T.Error.from_gives alloc_error) run.task result }
 {
     run_named::<B, T, R, FourMore<L>>(rt, run)
 }
 
-// Runs a task on the harts of a board, with the levels of `L`, and ends the board.
-fn run_named<B, T, R, L>(rt: &R, run: Run<T>) -> Result<T::Output, RunError<T::Error>>
+// Runs a task on the harts of a board, with the levels of `L`, and ends the board. If the board refuses to end, the observer
+// gets the reason, and the caller still gets the outcome.
+fn run_named<B, T, R, L>(rt: &R, run: Run<T>) -> Outcome<T>
 where
     B: Naming + Send + Sync,
     T: Task + Send,
@@ -216,9 +214,7 @@ where
     requires seated { AreSeated B.table B.size run.board run.seats.items }
     requires depth { T.depth run.task ≤ run.levels }
     requires levels { run.levels ≤ L.count }
-    ensures output { IfOk result (λ output. T.gives run.task output) }
-    ensures error { (most : ℕ) → IfErr result
-        (RunFails most run.board.size.harts run.levels (T.fails run.task) (T.Error.from_gives alloc_error)) }
+    ensures { Ends T.gives T.fails (T.Error.from_gives alloc_error) run.task result }
 {
     let Run {
         alloc,
@@ -227,21 +223,14 @@ where
         levels,
         task,
     } = run;
-    let crew = match Crew::<T, B>::new(alloc, board) {
-        Ok(crew) => crew,
-        Err(error) => return Err(RunError::Task(T::Error::from(error))),
-    };
-    let (outcome, seats) = match run_crew::<B, T, R, L>(rt, alloc, &crew, seats, levels, task) {
-        Ok(ran) => ran,
-        Err(error) => return Err(RunError::Task(T::Error::from(error))),
-    };
+    let crew = Crew::<T, B>::new(alloc, board)?;
+    let (outcome, seats) = run_crew::<B, T, R, L>(rt, alloc, &crew, seats, levels, task)?;
     if let Err(why) = go_home(crew.into_board(), seats) {
-        return Err(RunError::NotEnded(why));
+        if rt.is_on() {
+            rt.harts_stay(why);
+        }
     }
-    match outcome {
-        Ok(output) => Ok(output),
-        Err(error) => Err(RunError::Task(error)),
-    }
+    outcome
 }
 
 // Ends a board: all harts are at the base again.
@@ -263,7 +252,8 @@ fn go_home(board: OpenBoard, seats: Vec<OpenSeat>) -> Result<(), NotEnded>
     }
 }
 
-// Runs a task on the first of the harts, while the others are lent to the sites inside it. Returns the outcome and the seats.
+// Runs a task on the first of the harts, while the others are lent to the sites inside it. Returns the outcome and the seats. If
+// an allocation fails, the task hasn't begun.
 fn run_crew<B, T, R, L>(
     rt: &R,
     alloc: Global,
@@ -293,17 +283,19 @@ where
     // Why: `join` starts a thread, also for no guest.
     if guests.is_empty() {
         let (home, outcome) = run_home::<B, T, R, L>(alloc, crew, home, levels, task);
-        return Ok((outcome, seats_of(room, home, guests)?));
+        return Ok((outcome, seats_of(room, home, guests)));
     }
     let (guests, (home, outcome)) = thread::join(
         rt,
-        move || serve_all::<B, T, R, L>(rt, alloc, guests),
+        move || -> Vec<Hart<'_, T, R, B>>
+            ensures { vec_len result ≡ vec_len guests.entry }
+        { serve_all::<B, T, R, L>(rt, alloc, guests) },
         move || -> (Hart<'_, T, R, B>, Outcome<T>)
             requires { (T.depth task ≤ levels) × (levels ≤ L.count) }
             ensures { Ends T.gives T.fails (T.Error.from_gives alloc_error) task result.1 }
         { run_home::<B, T, R, L>(alloc, crew, home, levels, task) },
     );
-    Ok((outcome, seats_of(room, home, guests)?))
+    Ok((outcome, seats_of(room, home, guests)))
 }
 
 // Seats the harts of a crew, the last first.
@@ -314,6 +306,7 @@ fn seated<'c, B: Naming, T: Task, R>(
     mut seats: Vec<OpenSeat>,
 ) -> Result<Vec<Hart<'c, T, R, B>>, AllocError>
     requires { All (IsSeatOf B.table B.size) seats.items }
+    ensures { IfOk result (λ harts. vec_len harts ≡ vec_len seats) }
 {
     let mut harts = Vec::with_capacity(alloc, seats.len())?;
     'seats: while let Some(seat) = seats.pop() {
@@ -352,6 +345,7 @@ where
     L: Levels<T, R, B> + Send + Sync,
     T::Output: Send,
     T::Error: Send,
+    ensures { vec_len result ≡ vec_len guests.entry }
 {
     let parts = guests.len().max(1);
     thread::for_each_mut(
@@ -368,14 +362,16 @@ fn seats_of<'c, B: Naming, T: Task, R>(
     room: Vec<OpenSeat>,
     home: Hart<'c, T, R, B>,
     mut guests: Vec<Hart<'c, T, R, B>>,
-) -> Result<Vec<OpenSeat>, AllocError>
-    requires { room.items ≡ [] }
-    ensures { IfOk result (λ seats. All (IsSeatOf B.table B.size) seats.items) }
+) -> Vec<OpenSeat>
+    requires empty { room.items ≡ [] }
+    requires room { vec_len guests + 1 ≤ vec_capacity room }
+    ensures seats { All (IsSeatOf B.table B.size) result.items }
+    ensures count { vec_len result ≡ vec_len guests.entry + 1 }
 {
     let mut seats = room;
-    seats.push(home.into_seat())?;
+    seats.push_reserved(home.into_seat());
     'guests: while let Some(guest) = guests.pop() {
-        seats.push(guest.into_seat())?;
+        seats.push_reserved(guest.into_seat());
     }
-    Ok(seats)
+    seats
 }

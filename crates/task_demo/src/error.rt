@@ -96,7 +96,6 @@ impl From<RunError<AllocError>> for DemoError {
             RunError::HartCount(_) => DemoError::NotInRange("harts", 1, 64),
             RunError::LevelCount(_) => DemoError::NotEnded,
             RunError::Task(_) => DemoError::OutOfMemory,
-            RunError::NotEnded(_) => DemoError::NotEnded,
         }
     }
 }
@@ -115,6 +114,7 @@ impl From<TraceError> for DemoError {
             TraceError::NoClock => DemoError::NoClock,
             TraceError::UnknownHart => DemoError::NoTrace,
             TraceError::Unpaired => DemoError::NoTrace,
+            TraceError::NotEnded => DemoError::NotEnded,
         }
     }
 }

@@ -39,7 +39,7 @@ pub struct Ran {
 ///
 /// # Errors
 ///
-/// `OutOfMemory`, `NoClock`, or `NotEnded` if the harts couldn't end their run.
+/// `OutOfMemory` or `NoClock`. `NotInRange` if there are no harts or more than 64.
 ///
 /// # Memory
 ///
@@ -107,20 +107,13 @@ fn run_matrix<R: Threads + Wait + Clock + Sync>(
 ) -> Result<Ran, DemoError> {
     let left = rows(alloc, demo.count, demo.count, demo.seed)?;
     let right = rows(alloc, demo.count, demo.count, demo.seed.wrapping_add(1))?;
-    let high = left.len();
     let factors: Factors = Mapped {
         elements: left.as_slice(),
         map: Times {
             columns: right.as_slice(),
         },
     };
-    let whole = Part {
-        fold: factors,
-        low: 0,
-        high,
-        cuts: LEVELS,
-        shortest: 8,
-    };
+    let whole = Part::whole(factors, LEVELS, 8);
     let start = Instant::now(rt)?;
     let handle = Traced::new(rt, trace);
     let product = run_observed_eight_levels(&handle, alloc, demo.harts, LEVELS, whole)?;
@@ -143,18 +136,12 @@ fn run_table<R: Threads + Wait + Clock + Sync>(
     requires { cuts ≤ 4 }
 {
     let table = rows(alloc, demo.count, ROW, demo.seed)?;
-    let high = table.len();
-    let work = Work::Table(Part {
-        fold: Rows {
-            rows: table.as_slice(),
-            cuts,
-            shortest: SHORTEST_OF_ROW,
-        },
-        low: 0,
-        high,
-        cuts: LEVELS - cuts,
-        shortest: 1,
-    });
+    let rows = Rows {
+        rows: table.as_slice(),
+        cuts,
+        shortest: SHORTEST_OF_ROW,
+    };
+    let work = Work::Table(Part::whole(rows, LEVELS - cuts, 1));
     let (done, took) = run_work(rt, alloc, demo.harts, trace, work)?;
     let mut sum = 0u64;
     if let Done::Summaries(summaries) = done {

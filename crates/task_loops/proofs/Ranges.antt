@@ -22,29 +22,25 @@ module _ {A B : Type 0} (R : A → B → Type 0) where
 
   -- The images of two neighbouring ranges, one behind the other.
   pub zip_ranges : (xs : List A) (ys vs all : List B) (low middle high : ℕ) → low ≤ middle → middle ≤ high → all ≡ ys ++ vs
-      → (middle ≤ length xs → AllZip R (between low middle xs) ys) → (high ≤ length xs → AllZip R (between middle high xs) vs)
-      → high ≤ length xs → AllZip R (between low high xs) all
-  zip_ranges xs ys vs all low middle high h k e f b fits =
-      subst (λ zs. AllZip R (between low high xs) zs) (sym e) (subst (λ ws. AllZip R ws (ys ++ vs)) (sym (between-between xs low middle high h k)) (zip_append (between low middle xs) (between middle high xs) ys vs (f (omega arith)) (b fits)))
+      → AllZip R (between low middle xs) ys → AllZip R (between middle high xs) vs → AllZip R (between low high xs) all
+  zip_ranges xs ys vs all low middle high h k e f b =
+      subst (λ zs. AllZip R (between low high xs) zs) (sym e) (subst (λ ws. AllZip R ws (ys ++ vs)) (sym (between-between xs low middle high h k)) (zip_append (between low middle xs) (between middle high xs) ys vs f b))
 
   pub zip_push : (xs : List A) (ys : List B) (x : A) (y : B) → AllZip R xs ys → R x y → AllZip R (xs ++ x ∷ []) (ys ++ y ∷ [])
   zip_push xs ys x y z r = zip_append xs (x ∷ []) ys (y ∷ []) z (r, tt)
 
 -- The sums of two neighbouring ranges.
 pub sum_ranges : (xs : List ℕ) (a b c low middle high m : ℕ) → low ≤ middle → middle ≤ high → c ≡ (a + b) % m
-    → (middle ≤ length xs → a ≡ sum (between low middle xs) % m) → (high ≤ length xs → b ≡ sum (between middle high xs) % m)
-    → high ≤ length xs → c ≡ sum (between low high xs) % m
-sum_ranges xs a b c low middle high m h k e f g fits =
+    → a ≡ sum (between low middle xs) % m → b ≡ sum (between middle high xs) % m → c ≡ sum (between low high xs) % m
+sum_ranges xs a b c low middle high m h k e fa fb =
     let parts : sum (between low high xs) ≡ sum (between low middle xs) + sum (between middle high xs) = ap sum (between-between xs low middle high h k) ∙ sum_by-append (λ x. x) (between low middle xs) (between middle high xs) in
-    let fa = f (omega arith) in
-    let fb = g fits in
     e ∙ (ap (λ n. (n + b) % m) fa ∙ (ap (λ n. (sum (between low middle xs) % m + n) % m) fb ∙ (sym (add-mod (sum (between low middle xs)) (sum (between middle high xs)) m) ∙ ap (λ n. n % m) (sym parts))))
 
 -- The whole of a list.
-pub whole_range : {X : Type 0} (xs : List X) (n : ℕ) → n ≡ length xs → between 0 n xs ≡ xs
-whole_range xs n e =
-    let m : n - 0 ≡ length xs = omega (arith, e) in
-    ap (λ k. take k xs) m ∙ take-length xs
+pub whole_range : {X : Type 0} (xs : List X) (low high : ℕ) → low ≡ 0 → high ≡ length xs → between low high xs ≡ xs
+whole_range xs low high z e =
+    let m : high - low ≡ length xs = omega (arith, e, z) in
+    ap (λ k. take k (drop low xs)) m ∙ (ap (λ k. take (length xs) (drop k xs)) z ∙ take-length xs)
 
 -- One element more has its image.
 pub zip_more : {A B : Type 0} (R : A → B → Type 0) (xs : List A) (i : ℕ) (ys all : List B) (x : A) (y : B) → i < length xs → x ≡ get_or xs i x

@@ -5,8 +5,20 @@ use held_tasks::{Holds, join_as};
 use std::alloc::{AllocError, Global};
 use tasks::{Harts, Task, TaskKind};
 
+/// What has indices: 0 up to a number.
+///
+/// Why a trait of its own: a [`Part`] is inside the indices of its fold, whatever the outputs are.
+pub trait Indices: Copy {
+    /// The number of indices.
+    ghost size: { Self → ℕ };
+
+    /// The number of indices.
+    fn count(&self) -> usize
+        ensures { result ≡ size self.now };
+}
+
 /// The outputs of ranges of indices, and how the outputs of two neighbours are joined.
-pub trait Fold: Copy {
+pub trait Fold: Indices {
     /// The output of a range.
     type Output: Drop;
 
@@ -60,6 +72,7 @@ pub trait Leaf<V: TaskKind>: Fold {
         high: usize,
     ) -> Result<Self::Output, Self::Error>
         requires in_order { low ≤ high }
+        requires within { high ≤ Self.size self.now }
         requires levels { Self.depth self.now ≤ H.levels harts.old }
         ensures output { IfOk result (λ output. Self.gives self.now low high output) }
         ensures error { IfErr result (λ error. Self.fails self.now low high error
@@ -67,9 +80,9 @@ pub trait Leaf<V: TaskKind>: Fold {
         ensures levels { H.levels harts.new ≡ H.levels harts.old };
 }
 
-/// A range of a fold, as a task.
+/// A range of a fold, as a task. [`Part::whole`] has all indices, and [`run_fold`] cuts it.
 #[derive(Drop)]
-pub struct Part<F> {
+pub struct Part<F: Indices> {
     /// The fold, of which each part of a range has a copy.
     pub fold: F,
     /// The first index.
@@ -82,6 +95,29 @@ pub struct Part<F> {
     pub shortest: usize,
     /// The range isn't reversed.
     ghost in_order: { low ≤ high },
+    /// The fold has all indices of the range.
+    ghost within: { high ≤ F.size fold },
+}
+
+impl<F: Indices> Part<F> {
+    /// All indices of a fold, which are cut into at most 2^`cuts` leaves. One hart runs a range of fewer than `shortest`
+    /// indices.
+    pub fn whole(fold: F, cuts: u8, shortest: usize) -> Part<F>
+        ensures fold { result.fold ≡ fold }
+        ensures low { result.low ≡ 0 }
+        ensures high { result.high ≡ F.size fold }
+        ensures cuts { result.cuts ≡ cuts }
+        ensures shortest { result.shortest ≡ shortest }
+    {
+        let high = fold.count();
+        Part {
+            fold,
+            low: 0,
+            high,
+            cuts,
+            shortest,
+        }
+    }
 }
 
 impl<F: Fold> TaskKind for Part<F> {
@@ -122,7 +158,7 @@ impl<F: Fold> Holds<Part<F>> for Part<F> {
     }
 }
 
-impl<F: Leaf<Part<F>>> Task for Part<F> {
+impl<F: Fold + Leaf<Part<F>>> Task for Part<F> {
     fn run<H: Harts<Self>>(self, alloc: Global, harts: &mut H) -> Result<F::Output, F::Error> {
         run_fold::<F, Part<F>, H>(alloc, harts, self)
     }

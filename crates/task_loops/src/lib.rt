@@ -7,18 +7,25 @@
 //! cuts, even for an operator that isn't commutative.
 //!
 //! Three folds are ready to use: [`Mapped`] applies a function to each element of a slice and keeps the order, [`Each`] runs a
-//! body at each index, and [`Sum`] adds up the numbers of a slice.
+//! body at each index, and [`Sum`] adds up the numbers of a slice. A [`Part`] is made of a whole fold by [`Part::whole`], and no part
+//! has an index that its fold doesn't have. [`for_each_mut`] changes the elements of a slice in place, on threads of its own.
 //!
 //! # Example
 //!
-//! The sum of a slice's numbers, modulo 2^64, from `sums.rt` and `src/tests.rt`.
+//! The sum of a slice's numbers, modulo 2^64, from `sums.rt` and `task_tests/src/loops.rt`.
 //!
 //! ```text
+//! impl<'p> Indices for Sum<'p> {
+//!     ghost size = { λ fold. length fold.numbers.now };
+//!     fn count(&self) -> usize {
+//!         self.numbers.len()
+//!     }
+//! }
+//!
 //! impl<'p> Fold for Sum<'p> {
 //!     type Output = u64;
 //!     type Error = AllocError;
-//!     ghost gives = { λ fold low high output. high ≤ length fold.numbers.now
-//!         → output ≡ sum (between low high fold.numbers.now) % 2 ^ 64 };
+//!     ghost gives = { λ fold low high output. output ≡ sum (between low high fold.numbers.now) % 2 ^ 64 };
 //!     ghost fails = { λ _ _ _ _. ⊥ };
 //!     ghost depth = { λ _. 0 };
 //!     fn join(&self, front: u64, back: u64) -> Result<u64, AllocError> {
@@ -28,23 +35,17 @@
 //!     ghost back_fails = { λ _ _ _ _ _ _ _ _ _ no. no };
 //! }
 //!
-//! let part = Part {
-//!     fold: Sum { numbers: &numbers },
-//!     low: 0,
-//!     high: 9,
-//!     cuts,
-//!     shortest: 0,
-//! };
+//! let part = Part::whole(Sum { numbers: &numbers }, cuts, 0);
 //! assert_eq!(rt; run_alone(rt.alloc(), part)?, 30);
 //! ```
 #![tactic(auto)]
 
+mod changes;
 mod fold;
 mod loops;
 mod sums;
-#[cfg(test)]
-mod tests;
 
-pub use fold::{Fold, Leaf, Part, run_fold};
+pub use changes::{Change, for_each_mut};
+pub use fold::{Fold, Indices, Leaf, Part, run_fold};
 pub use loops::{Body, Each, Map, Mapped, for_each, run_map};
-pub use sums::Sum;
+pub use sums::{Sum, run_sum};

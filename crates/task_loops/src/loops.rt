@@ -1,9 +1,9 @@
 //! Loops over the elements of a slice, and over indices.
-ghost use Rattle.std.specs.Prelude.{◌≡◌, ◌≤◌, ◌<◌, ◌⊎◌, ℕ, length, IfOk, IfErr, alloc_error};
+ghost use Rattle.std.specs.Prelude.{◌≡◌, ◌≤◌, ◌<◌, ◌⊎◌, ℕ, length, IsOk, IfOk, IfErr, alloc_error};
 ghost use Rattle.std.specs.List.{AllZip};
 ghost use Rattle.task_loops.specs.Ranges.{between};
 
-use crate::fold::{Fold, Leaf, Part, run_fold};
+use crate::fold::{Fold, Indices, Leaf, Part, run_fold};
 use held_tasks::Holds;
 use std::alloc::{AllocError, Global};
 use tasks::{Harts, TaskKind};
@@ -46,13 +46,22 @@ impl<'p, A, M: Copy> Clone for Mapped<'p, A, M> {
 
 impl<'p, A, M: Copy> Copy for Mapped<'p, A, M> {}
 
+impl<'p, A, M: Copy> Indices for Mapped<'p, A, M> {
+    ghost size = { λ fold. length fold.elements.now };
+
+    fn count(&self) -> usize
+        ensures { result ≡ length self.now.elements.now }
+    {
+        self.elements.len()
+    }
+}
+
 impl<'p, A, M: Map<A>> Fold for Mapped<'p, A, M> {
     type Output = Vec<M::Image>;
 
     type Error = AllocError;
 
-    ghost gives = { λ fold low high output. high ≤ length fold.elements.now
-        → AllZip (M.image fold.map) (between low high fold.elements.now) output.items };
+    ghost gives = { λ fold low high output. AllZip (M.image fold.map) (between low high fold.elements.now) output.items };
 
     ghost fails = { λ _ _ _ _. ⊥ };
 
@@ -79,15 +88,13 @@ impl<'p, A, M: Map<A>, V: TaskKind> Leaf<V> for Mapped<'p, A, M> {
         high: usize,
     ) -> Result<Vec<M::Image>, AllocError>
         requires in_order { low ≤ high }
+        requires within { high ≤ length self.now.elements.now }
         requires levels { 0 ≤ H.levels _harts.old }
-        ensures output { IfOk result (λ output. high ≤ length self.now.elements.now
-            → AllZip (M.image self.now.map) (between low high self.now.elements.now) output.items) }
+        ensures output { IfOk result
+            (λ output. AllZip (M.image self.now.map) (between low high self.now.elements.now) output.items) }
         ensures error { IfErr result (λ error. ⊥ ⊎ (error ≡ alloc_error)) }
         ensures levels { H.levels _harts.new ≡ H.levels _harts.old }
     {
-        if self.elements.len() < high {
-            return Ok(Vec::new(alloc));
-        }
         let images = images_of(alloc, &self.map, &self.elements[low..high])?;
         Ok(images)
     }
@@ -132,14 +139,7 @@ pub fn run_map<'p, A, M: Map<A>, V: Holds<Part<Mapped<'p, A, M>>>, H: Harts<V>>(
     ensures error { IfErr result (λ error. error ≡ alloc_error) }
     ensures levels { H.levels harts.new ≡ H.levels harts.old }
 {
-    let high = mapped.elements.len();
-    let whole = Part {
-        fold: mapped,
-        low: 0,
-        high,
-        cuts,
-        shortest,
-    };
+    let whole = Part::whole(mapped, cuts, shortest);
     let images = run_fold::<Mapped<'p, A, M>, V, H>(alloc, harts, whole)?;
     Ok(images)
 }
@@ -154,11 +154,23 @@ pub trait Body: Copy {
         ensures { done self.now index };
 }
 
-/// A body that runs at each index of a range.
+/// A body that runs at each index from 0 up to a number.
 #[derive(Clone, Copy)]
 pub struct Each<B> {
     /// The body.
     pub body: B,
+    /// The number of indices.
+    pub count: usize,
+}
+
+impl<B: Copy> Indices for Each<B> {
+    ghost size = { λ fold. fold.count };
+
+    fn count(&self) -> usize
+        ensures { result ≡ self.now.count }
+    {
+        self.count
+    }
 }
 
 impl<B: Body> Fold for Each<B> {
@@ -172,7 +184,14 @@ impl<B: Body> Fold for Each<B> {
 
     ghost depth = { λ _. 0 };
 
-    fn join(&self, _front: (), _back: ()) -> Result<(), AllocError> {
+    fn join(&self, _front: (), _back: ()) -> Result<(), AllocError>
+        ensures output { IfOk result (λ _. (low middle high : ℕ) → low ≤ middle → middle ≤ high
+            → ((index : ℕ) → low ≤ index → index < middle → B.done self.now.body index)
+            → ((index : ℕ) → middle ≤ index → index < high → B.done self.now.body index)
+            → (index : ℕ) → low ≤ index → index < high → B.done self.now.body index) }
+        ensures error { IfErr result (λ error. error ≡ alloc_error) }
+        ensures ok { IsOk result }
+    {
         Ok(())
     }
 
@@ -190,10 +209,12 @@ impl<B: Body, V: TaskKind> Leaf<V> for Each<B> {
         high: usize,
     ) -> Result<(), AllocError>
         requires in_order { low ≤ high }
+        requires within { high ≤ self.now.count }
         requires levels { 0 ≤ H.levels _harts.old }
         ensures output { IfOk result
             (λ _. (index : ℕ) → low ≤ index → index < high → B.done self.now.body index) }
         ensures error { IfErr result (λ error. error ≡ alloc_error) }
+        ensures ok { IsOk result }
         ensures levels { H.levels _harts.new ≡ H.levels _harts.old }
     {
         'indices: for index in low..high {
@@ -203,7 +224,11 @@ impl<B: Body, V: TaskKind> Leaf<V> for Each<B> {
     }
 }
 
-/// Runs a body at each index of a range, by tasks inside tasks of any kind that holds them.
+/// Runs a body at each of its indices, by tasks inside tasks of any kind that holds them.
+///
+/// The contract states only that [`Body::done`] holds at each index afterwards. No contract states that the body runs once at an
+/// index, in which order or on which hart it runs, or what it does to values that it shares. [`for_each_mut`](crate::for_each_mut)
+/// states what each element of a slice becomes.
 ///
 /// # Errors
 ///
@@ -216,21 +241,14 @@ pub fn for_each<B: Body, V: Holds<Part<Each<B>>>, H: Harts<V>>(
     alloc: Global,
     harts: &mut H,
     each: Each<B>,
-    count: usize,
     cuts: u8,
     shortest: usize,
 ) -> Result<(), AllocError>
     requires { cuts ≤ H.levels harts.old }
-    ensures done { IfOk result (λ _. (index : ℕ) → index < count → B.done each.body index) }
+    ensures done { IfOk result (λ _. (index : ℕ) → index < each.count → B.done each.body index) }
     ensures error { IfErr result (λ error. error ≡ alloc_error) }
     ensures levels { H.levels harts.new ≡ H.levels harts.old }
 {
-    let whole = Part {
-        fold: each,
-        low: 0,
-        high: count,
-        cuts,
-        shortest,
-    };
+    let whole = Part::whole(each, cuts, shortest);
     run_fold::<Each<B>, V, H>(alloc, harts, whole)
 }

@@ -8,7 +8,8 @@ use std::alloc::{AllocError, Global};
 use task_loops::{Map, Mapped, Part, run_map};
 use tasks::Harts;
 
-/// Multiplies a row by each column of a matrix. A column that is shorter than the row counts as if zeros followed.
+/// Multiplies a row by each column of a matrix. A column that is shorter than the row counts as if zeros followed. The numbers of a
+/// longer column past the row's length are ignored.
 #[derive(Clone, Copy)]
 pub struct Times<'p> {
     /// The columns of the second matrix.

@@ -1,8 +1,9 @@
 -- The outputs of the application's tasks.
-use Rattle.std.specs.Prelude.{◌≡◌, ◌≤◌, ◌+◌, ◌%◌, ◌^◌, ℕ, Vec, length, sum}
+use Rattle.std.specs.Prelude.{◌≡◌, ◌+◌, ◌%◌, ◌^◌, ℕ, Vec, sum}
 use Rattle.std.specs.List.{AllZip}
 use Rattle.std.specs.declared.alloc.Global.{Global}
 use Rattle.task_loops.specs.Ranges.{between}
+use Rattle.task_loops.specs.declared.fold.Indices.{Ghosts}
 use Rattle.task_loops.specs.declared.fold.Part.{Part}
 use Rattle.task_loops.specs.declared.sums.Sum.{Sum}
 use Rattle.task_nested.specs.Rows.{IsSortOf, IsSummary}
@@ -14,12 +15,12 @@ use Rattle.task_nested.specs.declared.work.Done.{Done}
 use Rattle.task_nested.specs.declared.work.Done.TheVariants.{Summaries, Numbers, Total}
 
 -- The output of a range of rows: their summaries in order.
-abbrev pub GivesRows : Part Rows → Vec Summary Global → Type 0
-GivesRows part list = part.high ≤ length part.fold.rows.now → AllZip IsSummary (between part.low part.high part.fold.rows.now) list.items
+abbrev pub GivesRows : {indices : Ghosts Rows} → Part Rows indices → Vec Summary Global → Type 0
+GivesRows part list = AllZip IsSummary (between part.low part.high part.fold.rows.now) list.items
 
 -- The output of a range of a row: its sum.
-abbrev pub GivesSum : Part Sum → ℕ → Type 0
-GivesSum part total = part.high ≤ length part.fold.numbers.now → total ≡ sum (between part.low part.high part.fold.numbers.now) % 2 ^ 64
+abbrev pub GivesSum : {indices : Ghosts Sum} → Part Sum indices → ℕ → Type 0
+GivesSum part total = total ≡ sum (between part.low part.high part.fold.numbers.now) % 2 ^ 64
 
 -- The outputs: a range of rows has their summaries in order, a list has its numbers in order, and a range of a row has its sum.
 abbrev pub gives_of : Work → Done → Type 0

@@ -45,7 +45,7 @@ impl<'p> Holds<Part<Rows<'p>>> for Work<'p> {
     }
 
     fn output_of(output: Done) -> Option<Vec<Summary>>
-        ensures { (task : Part Rows) → gives_of (Table task) output
+        ensures { (task : Part Rows _) → gives_of (Table task) output
             → (own : Vec Summary Global) × (result ≡ Some own) × GivesRows task own }
     {
         match output {
@@ -107,7 +107,7 @@ impl<'p> Holds<Part<Sum<'p>>> for Work<'p> {
     }
 
     fn output_of(output: Done) -> Option<u64>
-        ensures { (task : Part Sum) → gives_of (Added task) output
+        ensures { (task : Part Sum _) → gives_of (Added task) output
             → (own : ℕ) × (result ≡ Some own) × GivesSum task own }
     {
         match output {

@@ -6,7 +6,7 @@
 //!
 //! # Example
 //!
-//! A table of three rows, from `src/tests.rt`.
+//! A table of three rows, from `task_tests/src/rows.rt`.
 //!
 //! ```text
 //! let rows = Rows {
@@ -14,13 +14,7 @@
 //!     cuts,
 //!     shortest: 0,
 //! };
-//! let work = Work::Table(Part {
-//!     fold: rows,
-//!     low: 0,
-//!     high: 3,
-//!     cuts: 2,
-//!     shortest: 0,
-//! });
+//! let work = Work::Table(Part::whole(rows, 2, 0));
 //! match run_alone(rt.alloc(), work)? {
 //!     Done::Summaries(summaries) => assert!(rt; summaries == expected, "with {cuts} cuts"),
 //!     _ => assert!(rt; false, "not summaries"),
@@ -30,8 +24,6 @@
 
 mod holds;
 mod rows;
-#[cfg(test)]
-mod tests;
 mod work;
 
 pub use rows::Rows;

@@ -6,7 +6,7 @@ ghost use Rattle.task_nested.specs.Rows.{IsSummary};
 
 use crate::work::{Summary, Work};
 use std::alloc::{AllocError, Global};
-use task_loops::{Fold, Leaf, Part, Sum, run_fold};
+use task_loops::{Fold, Indices, Leaf, Sum, run_sum};
 use task_sort::{Sort, run_sort};
 use tasks::Harts;
 
@@ -21,13 +21,22 @@ pub struct Rows<'p> {
     pub shortest: usize,
 }
 
+impl<'p> Indices for Rows<'p> {
+    ghost size = { λ fold. length fold.rows.now };
+
+    fn count(&self) -> usize
+        ensures { result ≡ length self.now.rows.now }
+    {
+        self.rows.len()
+    }
+}
+
 impl<'p> Fold for Rows<'p> {
     type Output = Vec<Summary>;
 
     type Error = AllocError;
 
-    ghost gives = { λ fold low high output. high ≤ length fold.rows.now
-        → AllZip IsSummary (between low high fold.rows.now) output.items };
+    ghost gives = { λ fold low high output. AllZip IsSummary (between low high fold.rows.now) output.items };
 
     ghost fails = { λ _ _ _ _. ⊥ };
 
@@ -54,15 +63,13 @@ impl<'p> Leaf<Work<'p>> for Rows<'p> {
         high: usize,
     ) -> Result<Vec<Summary>, AllocError>
         requires in_order { low ≤ high }
+        requires within { high ≤ length self.now.rows.now }
         requires levels { self.now.cuts ≤ H.levels harts.old }
-        ensures output { IfOk result (λ output. high ≤ length self.now.rows.now
-            → AllZip IsSummary (between low high self.now.rows.now) output.items) }
+        ensures output { IfOk result
+            (λ output. AllZip IsSummary (between low high self.now.rows.now) output.items) }
         ensures error { IfErr result (λ error. ⊥ ⊎ (error ≡ alloc_error)) }
         ensures levels { H.levels harts.new ≡ H.levels harts.old }
     {
-        if self.rows.len() < high {
-            return Ok(Vec::new(alloc));
-        }
         summaries_of::<H>(
             alloc,
             harts,
@@ -113,16 +120,9 @@ fn summary_of<'p, H: Harts<Work<'p>>>(
         shortest,
     };
     let sorted = run_sort::<u64, Work<'p>, H>(alloc, harts, sort)?;
-    let high = row.len();
-    let numbers = Part {
-        fold: Sum {
-            numbers: row.as_slice(),
-        },
-        low: 0,
-        high,
-        cuts,
-        shortest,
+    let numbers = Sum {
+        numbers: row.as_slice(),
     };
-    let sum = run_fold::<Sum<'p>, Work<'p>, H>(alloc, harts, numbers)?;
+    let sum = run_sum::<Work<'p>, H>(alloc, harts, numbers, cuts, shortest)?;
     Ok(Summary { sorted, sum })
 }

@@ -27,8 +27,6 @@
 #![tactic(auto)]
 
 mod search;
-#[cfg(test)]
-mod tests;
 mod tree;
 
 pub use search::{Search, first_in, run_search};

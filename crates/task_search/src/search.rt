@@ -1,5 +1,5 @@
 //! The search.
-ghost use Rattle.std.specs.Prelude.{◌≡◌, ◌≤◌, IfOk, IfErr, alloc_error, None, refl};
+ghost use Rattle.std.specs.Prelude.{◌≡◌, ◌≤◌, IsOk, IfOk, IfErr, alloc_error, None, refl};
 ghost use Rattle.std.specs.List.{AllZip, find, fold};
 ghost use Rattle.std.specs.Option.{option_copied, option_or};
 ghost use Rattle.task_search.specs.Preorder.{preorder};
@@ -67,6 +67,7 @@ pub fn run_search<'t, T, W: Wanted<T>, V: Holds<Search<'t, T, W>>, H: Harts<V>>(
     ensures output { IfOk result (λ found. option_copied found
         ≡ find (W.wants task.entry.wanted.now) (preorder task.entry.tree.now)) }
     ensures error { IfErr result (λ error. error ≡ alloc_error) }
+    ensures alone { task.entry.levels ≡ 0 → IsOk result }
     ensures levels { H.levels harts.new ≡ H.levels harts.old }
 {
     let Search {

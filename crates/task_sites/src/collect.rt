@@ -4,21 +4,23 @@ ghost use Rattle.std.specs.List.{AllZip};
 ghost use mathlib.Core.Option.{some};
 ghost use lib.ListN.{get_elem?};
 ghost use Rattle.task_table.specs.Slots.{Ends};
-ghost use Rattle.tasks.specs.Failures.{FirstFailure};
-ghost use Rattle.task_sites.specs.Collected.{Keeps};
+ghost use Rattle.task_sites.specs.Collected.{FirstError};
 
 use crate::board::Naming;
 use crate::hart::Hart;
 use crate::observer::Observer;
 use std::alloc::Global;
 use std::sync::Wait;
+use std::sync::atomic::{AtomicU64, Ordering};
 use std::thread;
 use task_table::{Outcome, TaskSeat, TaskTable};
 use tasks::{Harts, Task, TaskKind};
 
-// Runs the task at an index on a hart, unless a hart has claimed it. Returns whether it ran the task.
+// Runs the task at an index on a hart, unless a hart has claimed it. It drops a task behind one that is known to have failed: no
+// outcome behind the first failure is collected. Returns whether it claimed the task.
 pub(crate) fn run_at<T: Task, R: Observer, B: Naming, H: Harts<T>>(
     table: &TaskTable<T>,
+    failed: &AtomicU64,
     alloc: Global,
     hart: &Hart<'_, T, R, B>,
     harts: &mut H,
@@ -33,12 +35,19 @@ pub(crate) fn run_at<T: Task, R: Observer, B: Naming, H: Harts<T>>(
     let Some(task) = table.claim(&mut seat, place) else {
         return false;
     };
+    if failed.load(Ordering::SeqCst) < place as u64 {
+        drop(task);
+        return true;
+    }
     let outcome = hart.run_observed(alloc, harts, task);
+    if outcome.is_err() {
+        failed.fetch_min(place as u64, Ordering::SeqCst);
+    }
     table.give(&mut seat, place, outcome);
     true
 }
 
-// Collects the outcomes of all tasks in order. Spins for tasks that other harts run.
+// Collects the outcomes of the tasks in order, up to the first failure. Spins for tasks that other harts run.
 pub(crate) fn collect_all<T: TaskKind, R: Wait>(
     rt: &R,
     table: &TaskTable<T>,
@@ -50,38 +59,19 @@ pub(crate) fn collect_all<T: TaskKind, R: Wait>(
     ensures outputs { IfOk result (λ all. AllZip T.gives table.now.table.shared.key.value.items
         all.items) }
     ensures error { IfErr result
-        (λ error. FirstFailure T.gives T.fails table.now.table.shared.key.value.items error
-        ⊎ T.Error.from_gives alloc_error error) }
+        (FirstError T.gives T.fails (T.Error.from_gives alloc_error) table.now.table.shared.key.value.items) }
 {
     let count = table.count();
     let mut seat = table.seat();
-    let mut first = None;
     let mut place = 0;
     'places: while place < count {
-        let outcome = wait_for(rt, table, &mut seat, place);
-        keep(&mut outputs, &mut first, outcome);
+        match wait_for(rt, table, &mut seat, place) {
+            Ok(output) => outputs.push_reserved(output),
+            Err(error) => return Err(error),
+        }
         place += 1;
     }
-    match first {
-        None => Ok(outputs),
-        Some(error) => Err(error),
-    }
-}
-
-// Adds one more outcome: an output is appended while no task has failed, and the first error stays.
-fn keep<O: Drop, E: Drop>(outputs: &mut Vec<O>, first: &mut Option<E>, outcome: Result<O, E>)
-    requires room { vec_len outputs.old < vec_capacity outputs.old }
-    ensures keeps { Keeps outputs.old.items first.old outcome outputs.new.items first.new }
-    ensures room { vec_capacity outputs.new ≡ vec_capacity outputs.old }
-    ensures len { vec_len outputs.new ≤ vec_len outputs.old + 1 }
-{
-    if first.is_some() {
-        return;
-    }
-    match outcome {
-        Ok(output) => outputs.push_reserved(output),
-        Err(error) => *first = Some(error),
-    }
+    Ok(outputs)
 }
 
 // The outcome of the task at an index. Spins until the hart that runs the task has stored it.

@@ -5,7 +5,7 @@ use crate::board::{CrewBoard, Naming};
 use crate::countdown::Countdown;
 use crate::perches::{PaddedWords, Perches, padded_words};
 use crate::site::Site;
-use open_board::OpenBoard;
+use open_board::{OpenBoard, Size};
 use std::alloc::{AllocError, Global};
 use std::sync::atomic::Ordering;
 use std::sync::{Arc, Mutex, Wait};
@@ -18,14 +18,15 @@ type Cell<T> = Mutex<Option<Arc<Site<T>, Global>>>;
 #[derive(Drop)]
 pub struct Crew<T: TaskKind, B: Naming> {
     pub(crate) board: CrewBoard<B>,
-    pub(crate) harts: u8,
-    pub(crate) levels: u8,
+    pub(crate) size: Size,
     cells: Vec<Cell<T>>,
     // For each hart, bit k is 1 if the k-th site of which the hart is the home may want harts. Only the hart writes it.
     wishes: PaddedWords,
     pub(crate) perches: Perches,
     // 1 until the run has ended.
     run: Countdown,
+    /// The crew has the board's harts and levels.
+    pub ghost sized: { size ≡ B.size },
 }
 
 impl<T: TaskKind, B: Naming> Crew<T, B> {
@@ -46,8 +47,7 @@ impl<T: TaskKind, B: Naming> Crew<T, B> {
         let sites = size.harts as usize * size.levels as usize;
         Ok(Crew {
             board: CrewBoard::new(board),
-            harts: size.harts,
-            levels: size.levels,
+            size,
             cells: empty_cells(alloc, sites)?,
             wishes: padded_words(alloc, size.harts)?,
             perches: Perches::new(alloc, size.harts)?,
@@ -58,7 +58,7 @@ impl<T: TaskKind, B: Naming> Crew<T, B> {
     /// Ends the run: each hart that rests at the base wakes, and ends. It is called once.
     pub fn end(&self) {
         self.run.take(1);
-        self.perches.wake(0, self.harts as usize);
+        self.perches.wake(0, self.size.harts as usize);
     }
 
     /// Whether the run has still to end: 1 or 0.
@@ -73,8 +73,7 @@ impl<T: TaskKind, B: Naming> Crew<T, B> {
     {
         let Crew {
             board,
-            harts: _,
-            levels: _,
+            size: _,
             cells: _,
             wishes: _,
             perches: _,

@@ -39,7 +39,7 @@ impl<'c, T: TaskKind, R, B: Naming> Hart<'c, T, R, B> {
             number,
             seat: RefCell::new(CrewSeat::new(seat)),
             wishes: Cell::new(0),
-            share: Cell::new(crew.harts),
+            share: Cell::new(crew.size.harts),
         }
     }
 
@@ -61,7 +61,7 @@ impl<'c, T: TaskKind, R, B: Naming> Hart<'c, T, R, B> {
 
     /// The number of harts in the crew.
     pub(crate) fn crew_size(&self) -> u8 {
-        self.crew.harts
+        self.crew.size.harts
     }
 
     /// Whether the run has still to end: 1 or 0.
@@ -89,7 +89,7 @@ impl<'c, T: TaskKind, R, B: Naming> Hart<'c, T, R, B> {
 
     // Shows whether the site of which this hart is the home may want harts.
     fn show_wish(&self, site: u16, wants: bool) {
-        let levels = self.crew.levels.max(1) as u16;
+        let levels = self.crew.size.levels.max(1) as u16;
         let bit = 1u64.wrapping_shl(site.wrapping_sub(1).wrapping_rem(levels) as u32);
         let before = self.wishes.get();
         let wishes = if wants { before | bit } else { before & !bit };
@@ -150,7 +150,7 @@ impl<'c, T: TaskKind, R: Wait, B: Naming> Hart<'c, T, R, B> {
         self.show_wish(site, false);
         self.close();
         self.crew.clear(self.rt, site);
-        self.crew.perches.wake(site, self.crew.harts as usize);
+        self.crew.perches.wake(site, self.crew.size.harts as usize);
         let backoff = Backoff::new();
         'looks: for _ in self.rt.forever() {
             if self.has_unregistered() {
@@ -192,7 +192,7 @@ impl<'c, T: TaskKind, R: Wait, B: Naming> Hart<'c, T, R, B> {
     /// Enters a site below the hart's owner that wants harts. Returns its tasks, or `None` if the hart found no such site: its
     /// owner is then unchanged.
     pub(crate) fn enter_wish(&self) -> Option<Arc<Site<T>, Global>> {
-        let harts = self.crew.harts;
+        let harts = self.crew.size.harts;
         for step in 1..harts {
             let home = ((self.number as u16 + step as u16) % harts as u16) as u8;
             let wishes = self.crew.wishes_of(home);
@@ -207,7 +207,7 @@ impl<'c, T: TaskKind, R: Wait, B: Naming> Hart<'c, T, R, B> {
 
     // Enters one of the sites of a home below the hart's owner.
     fn enter_of(&self, home: u8, wishes: u64) -> Option<Arc<Site<T>, Global>> {
-        let levels = self.crew.levels;
+        let levels = self.crew.size.levels;
         for level in 0..levels {
             if wishes.wrapping_shr(level as u32) % 2 == 1 {
                 let site = 1 + home as u16 * levels as u16 + level as u16;
@@ -244,7 +244,7 @@ impl<'c, T: TaskKind, R: Wait, B: Naming> Hart<'c, T, R, B> {
 
     // Wakes the home of the site, if it rests there.
     fn wake_home(&self, site: u16) {
-        let levels = self.crew.levels.max(1) as u16;
+        let levels = self.crew.size.levels.max(1) as u16;
         let home = site.wrapping_sub(1).wrapping_div(levels);
         self.crew.perches.wake_hart((home % 256) as u8, site);
     }

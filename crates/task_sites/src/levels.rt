@@ -1,5 +1,5 @@
 //! The harts that a task of a crew runs on.
-ghost use Rattle.std.specs.Prelude.{◌≡◌, ◌<◌, ◌≤◌, ◌+◌, ◌⊎◌, ℕ, min, length, All, IfOk, IfErr, alloc_error};
+ghost use Rattle.std.specs.Prelude.{◌≡◌, ◌<◌, ◌≤◌, ◌+◌, ◌⊎◌, ℕ, [], min, length, All, IsOk, IfOk, IfErr, alloc_error};
 ghost use Rattle.std.specs.Arc.{arc_value};
 ghost use Rattle.std.specs.List.{AllZip};
 ghost use Rattle.tasks.specs.Failures.{FirstFailure};
@@ -184,6 +184,7 @@ impl<'x, 'c: 'x, T: Task, R: Observer, B: Naming, L: Levels<T, R, B>> Harts<T>
         ensures outputs { IfOk result (λ outputs. AllZip T.gives tasks.items outputs.items) }
         ensures error { IfErr result (λ error. FirstFailure T.gives T.fails tasks.items error
             ⊎ T.Error.from_gives alloc_error error) }
+        ensures no_tasks { tasks.items ≡ [] → IsOk result }
         ensures levels { min 255 (L.count + 1) ≡ min 255 (L.count + 1) }
     {
         fork_join_on::<T, R, B, L>(alloc, self.hart, tasks)
@@ -191,6 +192,7 @@ impl<'x, 'c: 'x, T: Task, R: Observer, B: Naming, L: Levels<T, R, B>> Harts<T>
 }
 
 // Runs tasks at a site of their own, and returns their outputs in order once all have ended. One hart alone runs them in order.
+#[tactic(auto, using(crate::proofs::Places::plain_failure))]
 fn fork_join_on<T: Task, R: Observer, B: Naming, L: Levels<T, R, B>>(
     alloc: Global,
     hart: &Hart<'_, T, R, B>,
@@ -200,6 +202,7 @@ fn fork_join_on<T: Task, R: Observer, B: Naming, L: Levels<T, R, B>>(
     ensures outputs { IfOk result (λ outputs. AllZip T.gives tasks.items outputs.items) }
     ensures error { IfErr result (λ error. FirstFailure T.gives T.fails tasks.items error
         ⊎ T.Error.from_gives alloc_error error) }
+    ensures no_tasks { tasks.items ≡ [] → IsOk result }
 {
     if hart.crew_size() < 2 {
         return in_order_on::<T, R, B, L>(alloc, hart, tasks);
@@ -214,7 +217,10 @@ fn fork_join_on<T: Task, R: Observer, B: Naming, L: Levels<T, R, B>>(
     let site = shared_site(alloc, tasks, L::number(), share)?;
     let rt = hart.rt;
     lead::<T, R, B, L>(alloc, hart, &site, wish);
-    site.outcomes(rt, outputs)
+    match site.outcomes(rt, outputs) {
+        Ok(all) => Ok(all),
+        Err(error) => Err(error),
+    }
 }
 
 // Runs tasks on this hart alone, in order, up to the first that fails.
@@ -227,6 +233,7 @@ fn in_order_on<T: Task, R: Observer, B: Naming, L: Levels<T, R, B>>(
     ensures outputs { IfOk result (λ outputs. AllZip T.gives tasks.items outputs.items) }
     ensures error { IfErr result (λ error. FirstFailure T.gives T.fails tasks.items error
         ⊎ T.Error.from_gives alloc_error error) }
+    ensures no_tasks { tasks.items ≡ [] → IsOk result }
 {
     let mut outputs = Vec::with_capacity(alloc, tasks.len())?;
     let mut rest = tasks.into_iter();
@@ -245,7 +252,7 @@ fn shared_site<T: Task>(
 ) -> Result<Arc<Site<T>, Global>, AllocError>
     requires some { 0 < length tasks.items }
     requires shallow { All (λ task. T.depth task ≤ levels) tasks.items }
-    ensures { IfOk result (λ site. arc_value site ≡ (tasks.items, levels)) }
+    ensures { IfOk result (λ site. arc_value site ≡ (tasks.items, levels, share)) }
 {
     let site = Site::new(alloc, tasks, levels, share)?;
     Ok(Arc::new(alloc, site)?)

@@ -12,7 +12,7 @@
 //!
 //! # Example
 //!
-//! A task that runs tasks inside it at a site of their own, from `crew_tests/src/trees.rt`. `task_crew` runs such a task.
+//! A task that runs tasks inside it at a site of their own, from `task_tests/src/trees.rt`. `task_crew` runs such a task.
 //!
 //! ```text
 //! let leaves = harts.fork_join(alloc, branches_of(alloc, &self)?)?;

@@ -1,4 +1,7 @@
 //! The observer of a run: it gets a call when a task begins and when a task ends.
+ghost use Rattle.std.specs.Prelude.{◌≡◌};
+
+use open_board::NotEnded;
 use std::sync::Wait;
 use std::thread::Threads;
 
@@ -13,6 +16,10 @@ pub trait Observer: Wait {
 
     /// The task ends that began last of those that run on the hart.
     fn task_ends(&self, hart: u8);
+
+    /// All tasks have ended, but the board refused to end for this reason, as if a hart were still in a site. The run returns its
+    /// outcome.
+    fn harts_stay(&self, why: NotEnded);
 }
 
 /// A handle that observes nothing, over another handle.
@@ -23,7 +30,9 @@ pub struct Unobserved<'r, R> {
 
 impl<'r, R> Unobserved<'r, R> {
     /// Makes a handle with the abilities of `rt`, which observes nothing.
-    pub fn new(rt: &'r R) -> Unobserved<'r, R> {
+    pub fn new(rt: &'r R) -> Unobserved<'r, R>
+        ensures { result.rt.now ≡ rt.now }
+    {
         Unobserved { rt }
     }
 }
@@ -40,4 +49,6 @@ impl<R: Wait> Observer for Unobserved<'_, R> {
     fn task_begins(&self, _hart: u8, _site: u16) {}
 
     fn task_ends(&self, _hart: u8) {}
+
+    fn harts_stay(&self, _why: NotEnded) {}
 }

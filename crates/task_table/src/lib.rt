@@ -4,9 +4,13 @@
 //! A table is made of a list of tasks and shared by reference. Each hart takes a seat, claims the task at an index, runs it and
 //! stores its outcome. The hart that needs the outcomes collects each from its index. No call locks or blocks.
 //!
+//! A seat's view lists what the seat has claimed, stored and collected, and no step changes a list but by one entry of its own
+//! call. By the table's invariant no task is lost: a task whose word isn't 0 was claimed by a seat, has its outcome, which a seat
+//! stored, in its slot, or had its outcome collected by a seat; and each outcome that was collected was stored.
+//!
 //! # Example
 //!
-//! From `src/tests.rt`, where a task is a number and its output twice the number.
+//! From `task_tests/src/tables.rt`, where a task is a number and its output twice the number.
 //!
 //! ```text
 //! let table = TaskTable::new(rt.alloc(), tasks)?;
@@ -29,8 +33,6 @@
 mod rule;
 mod slot;
 mod table;
-#[cfg(test)]
-mod tests;
 
-pub use slot::{Outcome, SeatView, TaskList, TaskSeat, TaskSlot};
+pub use slot::{Outcome, SeatView, TaskList, TaskSeat, TaskSlot, TaskView};
 pub use table::TaskTable;

@@ -1,5 +1,5 @@
 //! The invariant of a table of tasks, and what each kind of step ensures.
-use crate::slot::{Outcome, SeatView, TaskList, TaskSlot};
+use crate::slot::{Outcome, SeatView, TaskList, TaskSlot, TaskView};
 use atomic_table::{Play, TableRule};
 use std::marker::PhantomData;
 use tasks::TaskKind;
@@ -9,29 +9,28 @@ pub struct TaskRule<T> {
     marker: PhantomData<T>,
 }
 
-impl<T: TaskKind> TableRule<TaskSlot<T, Outcome<T>>, SeatView<TaskList<T>>, TaskList<T>>
-    for TaskRule<T> {
-    ghost use Rattle.std.specs.Prelude.{alloc_error};
+impl<T: TaskKind> TableRule<TaskSlot<T, Outcome<T>>, TaskView<T>, TaskList<T>> for TaskRule<T> {
+    ghost use Rattle.std.specs.Prelude.{alloc_error, []};
     ghost use Rattle.task_table.specs.Slots.{TasksStand, Ends};
 
     ghost holds = { λ key. TasksStand (Ends T.gives T.fails (T.Error.from_gives alloc_error)) key key.value.items };
 
-    ghost first = { λ key. record { tasks = key; place = 0; found = 0 } };
+    ghost first = { λ key. record { tasks = key; place = 0; found = 0; took = []; gave = []; got = [] } };
 }
 
 /// The load by which a hart takes a seat.
 pub struct Sit;
 
-impl<T, R> Play<TaskSlot<T, R>, SeatView<TaskList<T>>> for Sit {
-    ghost use Rattle.std.specs.Prelude.{◌≡◌};
+impl<T, R> Play<TaskSlot<T, R>, SeatView<TaskList<T>, R>> for Sit {
+    ghost use Rattle.std.specs.Prelude.{◌≡◌, []};
 
-    ghost then = { λ s me found after. after.0.tasks ≡ me.0.tasks };
+    ghost then = { λ s me found after. (after.0.tasks ≡ me.0.tasks) × (after.0.took ≡ []) × (after.0.gave ≡ []) × (after.0.got ≡ []) };
 }
 
 /// The exchange by which a task is claimed.
 pub struct Claim;
 
-impl<T, R> Play<TaskSlot<T, R>, SeatView<TaskList<T>>> for Claim {
+impl<T, R> Play<TaskSlot<T, R>, SeatView<TaskList<T>, R>> for Claim {
     ghost use Rattle.task_table.specs.Slots.{Claims};
 
     ghost then = { λ s me found after. Claims me.0.tasks.value.items me s.word found after };
@@ -40,11 +39,10 @@ impl<T, R> Play<TaskSlot<T, R>, SeatView<TaskList<T>>> for Claim {
 /// The store by which a hart stores an outcome.
 pub struct Give;
 
-impl<T, R> Play<TaskSlot<T, R>, SeatView<TaskList<T>>> for Give {
-    ghost use Rattle.std.specs.Prelude.{◌≡◌};
-    ghost use Rattle.atomic_table.specs.Table.{rest};
+impl<T, R> Play<TaskSlot<T, R>, SeatView<TaskList<T>, R>> for Give {
+    ghost use Rattle.task_table.specs.Slots.{Gives};
 
-    ghost then = { λ s me found after. after ≡ (me.0, rest me.1) };
+    ghost then = { λ s me found after. Gives me s.word after };
 }
 
 /// The exchange by which an outcome is collected.
@@ -52,7 +50,7 @@ pub struct Collect<T> {
     marker: PhantomData<T>,
 }
 
-impl<T: TaskKind> Play<TaskSlot<T, Outcome<T>>, SeatView<TaskList<T>>> for Collect<T> {
+impl<T: TaskKind> Play<TaskSlot<T, Outcome<T>>, TaskView<T>> for Collect<T> {
     ghost use Rattle.std.specs.Prelude.{alloc_error};
     ghost use Rattle.task_table.specs.Slots.{Collects, Ends};
 

@@ -6,7 +6,7 @@ ghost use Rattle.atomic_table.specs.Table.{rest};
 ghost use Rattle.task_table.specs.Slots.{Ends};
 
 use crate::rule::{Claim, Collect, Give, Sit, TaskRule};
-use crate::slot::{Outcome, SeatView, TaskList, TaskSeat, TaskSlot};
+use crate::slot::{Outcome, TaskList, TaskSeat, TaskSlot, TaskView};
 use atomic_table::{Refused, Table};
 use std::alloc::{AllocError, Global};
 use std::snapshot::Snapshot;
@@ -15,13 +15,7 @@ use tasks::TaskKind;
 /// Tasks that wait, and the outcomes of those that have ended. Harts share it by reference.
 #[derive(Drop)]
 pub struct TaskTable<T: TaskKind> {
-    pub(crate) table: Table<
-        TaskSlot<T, Outcome<T>>,
-        SeatView<TaskList<T>>,
-        TaskList<T>,
-        TaskRule<T>,
-        Global,
-    >,
+    pub(crate) table: Table<TaskSlot<T, Outcome<T>>, TaskView<T>, TaskList<T>, TaskRule<T>, Global>,
     pub(crate) count: usize,
     pub ghost words: { table.shared.table_id.words ≡ count },
     pub ghost slots: { table.shared.table_id.slots ≡ count },
@@ -79,11 +73,14 @@ impl<T: TaskKind> TaskTable<T> {
         ensures of { result.table_id ≡ self.now.table.shared.table_id }
         ensures knows { result.me.0.tasks ≡ self.now.table.shared.key }
         ensures holds_none { result.me.1 ≡ [] }
+        ensures took { result.me.0.took ≡ [] }
+        ensures gave { result.me.0.gave ≡ [] }
+        ensures got { result.me.0.got ≡ [] }
     {
         self.table.shared.load_new_seat::<Sit>(0).1
     }
 
-    /// Claims the task at an index. `None` only if the seat read in the task's word that a hart claimed the task.
+    /// Claims the task at an index, and no other. `None` only if the seat read in the task's word that a hart claimed the task.
     pub fn claim(&self, seat: &mut TaskSeat<T>, place: usize) -> Option<T>
         requires of { seat.old.table_id ≡ self.now.table.shared.table_id }
         requires knows { seat.old.me.0.tasks ≡ self.now.table.shared.key }
@@ -95,6 +92,10 @@ impl<T: TaskKind> TaskTable<T> {
             × (seat.new.me.1 ≡ (place, TaskSlot.Out) ∷ seat.old.me.1)) }
         ensures taken { MatchOption result
             ((seat.new.me.0.place ≡ place) × (seat.new.me.0.found ≢ 0)) (λ _. Unit {0}) }
+        ensures took { MatchOption result (seat.new.me.0.took ≡ seat.old.me.0.took)
+            (λ _. seat.new.me.0.took ≡ place ∷ seat.old.me.0.took) }
+        ensures gave { seat.new.me.0.gave ≡ seat.old.me.0.gave }
+        ensures got { seat.new.me.0.got ≡ seat.old.me.0.got }
     {
         let found = self
             .table
@@ -110,7 +111,7 @@ impl<T: TaskKind> TaskTable<T> {
         None
     }
 
-    /// Stores the outcome of the task that this seat claimed last.
+    /// Stores the outcome of the task that this seat claimed last, for the seat that collects it.
     pub fn give(&self, seat: &mut TaskSeat<T>, place: usize, outcome: Outcome<T>)
         requires of { seat.old.table_id ≡ self.now.table.shared.table_id }
         requires knows { seat.old.me.0.tasks ≡ self.now.table.shared.key }
@@ -121,6 +122,9 @@ impl<T: TaskKind> TaskTable<T> {
         ensures of { seat.new.table_id ≡ seat.old.table_id }
         ensures knows { seat.new.me.0.tasks ≡ seat.old.me.0.tasks }
         ensures given { seat.new.me.1 ≡ rest seat.old.me.1 }
+        ensures took { seat.new.me.0.took ≡ seat.old.me.0.took }
+        ensures gave { seat.new.me.0.gave ≡ (place, outcome) ∷ seat.old.me.0.gave }
+        ensures got { seat.new.me.0.got ≡ seat.old.me.0.got }
     {
         let _out = self
             .table
@@ -129,7 +133,8 @@ impl<T: TaskKind> TaskTable<T> {
         self.table.shared.store::<Give>(seat, place, 2);
     }
 
-    /// Collects the outcome of the task at an index. `None` only if the seat read in the task's word that there is no outcome.
+    /// Collects the outcome of the task at an index, and no other: by the table's invariant the one that a seat stored there. `None`
+    /// only if the seat read in the task's word that there is no outcome.
     pub fn collect(&self, seat: &mut TaskSeat<T>, place: usize) -> Option<Outcome<T>>
         requires of { seat.old.table_id ≡ self.now.table.shared.table_id }
         requires knows { seat.old.me.0.tasks ≡ self.now.table.shared.key }
@@ -141,6 +146,10 @@ impl<T: TaskKind> TaskTable<T> {
             → Ends T.gives T.fails (T.Error.from_gives alloc_error) task outcome) }
         ensures absent { MatchOption result
             ((seat.new.me.0.place ≡ place) × (seat.new.me.0.found ≢ 2)) (λ _. Unit {0}) }
+        ensures took { seat.new.me.0.took ≡ seat.old.me.0.took }
+        ensures gave { seat.new.me.0.gave ≡ seat.old.me.0.gave }
+        ensures got { MatchOption result (seat.new.me.0.got ≡ seat.old.me.0.got)
+            (λ outcome. seat.new.me.0.got ≡ (place, outcome) ∷ seat.old.me.0.got) }
     {
         let found = self
             .table

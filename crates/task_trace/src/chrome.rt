@@ -1,8 +1,9 @@
 //! Events as Chrome's trace events.
-ghost use Rattle.std.specs.Prelude.{◌≡◌, ◌≤◌, ◌∷◌, [], None, Some, OnOk, IfOk, string_bytes, codes};
+ghost use Rattle.std.specs.Prelude.{◌≡◌, ◌≤◌, ◌∷◌, [], None, Some, OnOk, IfOk, IfErr, string_bytes, codes};
 ghost use Rattle.serde.specs.Event.{field_key, double};
 ghost use Rattle.serde.specs.declared.name.Case.TheVariants.{AsIs};
 ghost use Rattle.serde_json.specs.Sent.{IsTextOf};
+ghost use Rattle.task_trace.specs.declared.error.TraceError.TheVariants.{OutOfMemory};
 ghost use Rattle.task_trace.specs.Chrome.{Grows, text_member, number_member, micros, common_members, event_members, hart_members, members_from, trace_members};
 
 use crate::error::TraceError;
@@ -156,7 +157,8 @@ fn write_number<S: Serializer>(out: &mut S, key: &str, value: u64) -> Result<(),
 ///
 /// The text, about 150 bytes for each task.
 pub fn chrome_trace(alloc: Global, harts: &[Vec<Event>]) -> Result<String, TraceError>
-    ensures { IfOk result (λ text. IsTextOf (Some (trace_members harts.now)) (string_bytes text)) }
+    ensures text { IfOk result (λ text. IsTextOf (Some (trace_members harts.now)) (string_bytes text)) }
+    ensures error { IfErr result (λ error. error ≡ OutOfMemory) }
 {
     // Why no other error: the trace has only texts and finite numbers.
     match serde_json::to_string(alloc, &ChromeTrace { harts }) {

@@ -13,6 +13,8 @@ pub enum TraceError {
     UnknownHart,
     /// A task has begun and not ended, or ended and not begun.
     Unpaired,
+    /// The run's board refused to end, as if a hart were still in a site.
+    NotEnded,
 }
 
 impl From<AllocError> for TraceError {

@@ -1,6 +1,8 @@
 //! The events of one hart.
-ghost use Rattle.std.specs.Prelude.{◌≡◌, ◌+◌, Some, IfOk};
+ghost use Rattle.std.specs.Prelude.{◌≡◌, ◌+◌, ◌^◌, ◌<◌, ◌≤◌, ◌⊎◌, [], Some, None, IsSome, IsNone, IfOk, IfErr};
+ghost use Rattle.task_trace.specs.Keeping.{Keeps};
 ghost use Rattle.task_trace.specs.Nesting.{running_after, IsNested};
+ghost use Rattle.task_trace.specs.declared.error.TraceError.TheVariants.{Unpaired};
 
 use crate::error::TraceError;
 use std::alloc::Global;
@@ -27,7 +29,9 @@ pub(crate) struct HartEvents {
 
 impl HartEvents {
     /// A hart on which nothing has happened.
-    pub(crate) fn new(alloc: Global) -> HartEvents {
+    pub(crate) fn new(alloc: Global) -> HartEvents
+        ensures { (result.events.items ≡ []) × (result.fault ≡ None) }
+    {
         HartEvents {
             events: Vec::new(alloc),
             running: 0,
@@ -37,7 +41,11 @@ impl HartEvents {
 
     /// Keeps that a task begins.
     #[tactic(auto, using(crate::proofs::Nested::more))]
-    pub(crate) fn begin(&mut self, site: u16, nanos: u64) {
+    pub(crate) fn begin(&mut self, site: u16, nanos: u64)
+        ensures stopped { IsSome self.old.fault → self.new ≡ self.old }
+        ensures kept { IsNone self.old.fault → Keeps (Event.Begin site nanos) (2 ^ 64 ≤ self.old.running + 1)
+            self.old.events.items self.new.events.items self.new.fault }
+    {
         if self.fault.is_some() {
             return;
         }
@@ -53,7 +61,11 @@ impl HartEvents {
 
     /// Keeps that the task that began last of those that run ends.
     #[tactic(auto, using(crate::proofs::Nested::fewer))]
-    pub(crate) fn end(&mut self, nanos: u64) {
+    pub(crate) fn end(&mut self, nanos: u64)
+        ensures stopped { IsSome self.old.fault → self.new ≡ self.old }
+        ensures kept { IsNone self.old.fault → Keeps (Event.End nanos) (self.old.running ≡ 0)
+            self.old.events.items self.new.events.items self.new.fault }
+    {
         if self.fault.is_some() {
             return;
         }
@@ -68,7 +80,10 @@ impl HartEvents {
     }
 
     /// Keeps that an event is missing.
-    pub(crate) fn fail(&mut self, error: TraceError) {
+    pub(crate) fn fail(&mut self, error: TraceError)
+        ensures stopped { IsSome self.old.fault → self.new ≡ self.old }
+        ensures kept { IsNone self.old.fault → (self.new.events ≡ self.old.events) × (self.new.fault ≡ Some error) }
+    {
         if self.fault.is_none() {
             self.fault = Some(error);
         }
@@ -80,7 +95,10 @@ impl HartEvents {
     ///
     /// Why an event is missing; `Unpaired` if a task still runs.
     pub(crate) fn into_events(self) -> Result<Vec<Event>, TraceError>
-        ensures { IfOk result (λ events. IsNested events.items) }
+        ensures nested { IfOk result (λ events. IsNested events.items) }
+        ensures events { IfOk result (λ events. (events ≡ self.events) × (self.fault ≡ None)) }
+        ensures error { IfErr result (λ error. (self.fault ≡ Some error)
+            ⊎ ((self.fault ≡ None) × (error ≡ Unpaired) × (0 < self.running))) }
     {
         let HartEvents {
             events,

@@ -5,13 +5,14 @@
 //! `chrome://tracing` and Perfetto open.
 //!
 //! The contracts state that the events of each hart are nested: each end is that of the task that began last of those that
-//! still run, and each task that has begun has ended. No contract states that each task has an event.
+//! still run, and each task that has begun has ended. There is a list for each hart of the trace. A hart's row keeps each event
+//! that it gets, or why it is missing (`Keeps`); it is behind a lock, so no contract states that each task has an event.
 //!
-//! Begin with `Trace` in `trace.rt` and `IsNested` in `specs/Nesting.antt`.
+//! Begin with `Trace` in `trace.rt`, `IsNested` in `specs/Nesting.antt` and `Keeps` in `specs/Keeping.antt`.
 //!
 //! # Example
 //!
-//! From `trace_tests/src/runs.rt`.
+//! From `task_tests/src/runs.rt`.
 //!
 //! ```text
 //! let trace = Trace::new(rt, alloc, harts)?;

@@ -1,11 +1,13 @@
 //! A trace, and the handle of a run that is traced.
-ghost use Rattle.std.specs.Prelude.{◌≡◌, IfOk};
+ghost use Rattle.std.specs.Prelude.{◌≡◌, ◌⊎◌, length, IfOk, IfErr};
 ghost use Rattle.std.specs.List.{All};
 ghost use Rattle.task_trace.specs.Nesting.{IsNested};
+ghost use Rattle.task_trace.specs.declared.error.TraceError.TheVariants.{OutOfMemory, NoClock};
 
 use crate::error::TraceError;
 use crate::event::{Event, HartEvents};
 use crossbeam_utils::CachePadded;
+use open_board::NotEnded;
 use std::alloc::Global;
 use std::sync::atomic::{AtomicBool, Ordering};
 use std::sync::{Mutex, Wait};
@@ -23,6 +25,8 @@ pub struct Trace {
     rows: Vec<Row>,
     // Whether a hart without a row ran a task.
     has_strayed: AtomicBool,
+    // Whether the board refused to end.
+    has_stayed: AtomicBool,
 }
 
 impl Trace {
@@ -36,15 +40,19 @@ impl Trace {
     ///
     /// Some cache lines for each hart. During the run, 32 bytes for each task, in a list that grows. If an allocation of the list
     /// fails, the tasks run on, and [`into_events`](Trace::into_events) reports it.
-    pub fn new<C: Clock>(clock: &C, alloc: Global, harts: u8) -> Result<Trace, TraceError> {
+    pub fn new<C: Clock>(clock: &C, alloc: Global, harts: u8) -> Result<Trace, TraceError>
+        ensures rows { IfOk result (λ trace. length trace.rows.items ≡ harts) }
+        ensures error { IfErr result (λ error. (error ≡ OutOfMemory) ⊎ (error ≡ NoClock)) }
+    {
         let mut rows = Vec::with_capacity(alloc, harts as usize)?;
-        for _hart in 0..harts {
+        'harts: for hart in 0..harts {
             rows.push(CachePadded::new(Mutex::new(HartEvents::new(alloc))))?;
         }
         Ok(Trace {
             start: Instant::now(clock)?,
             rows,
             has_strayed: AtomicBool::new(false),
+            has_stayed: AtomicBool::new(false),
         })
     }
 
@@ -52,20 +60,25 @@ impl Trace {
     ///
     /// # Errors
     ///
-    /// Why an event is missing: `OutOfMemory`, `NoClock`, `UnknownHart`, or `Unpaired`. `OutOfMemory` also if the list can't be
-    /// allocated.
+    /// `NotEnded` if the run's board refused to end. Why an event is missing: `OutOfMemory`, `NoClock`, `UnknownHart`, or
+    /// `Unpaired`. `OutOfMemory` also if the list can't be allocated.
     ///
     /// # Memory
     ///
     /// One list.
     pub fn into_events(self, alloc: Global) -> Result<Vec<Vec<Event>>, TraceError>
-        ensures { IfOk result (λ harts. All (λ events. IsNested events.items) harts.items) }
+        ensures nested { IfOk result (λ harts. All (λ events. IsNested events.items) harts.items) }
+        ensures rows { IfOk result (λ harts. length harts.items ≡ length self.rows.items) }
     {
         let Trace {
             start: _,
             rows,
             has_strayed,
+            has_stayed,
         } = self;
+        if has_stayed.load(Ordering::SeqCst) {
+            return Err(TraceError::NotEnded);
+        }
         if has_strayed.load(Ordering::SeqCst) {
             return Err(TraceError::UnknownHart);
         }
@@ -151,6 +164,12 @@ impl<R: Wait + Clock> Observer for Traced<'_, R> {
         match nanos {
             Ok(nanos) => events.end(nanos),
             Err(error) => events.fail(error),
+        }
+    }
+
+    fn harts_stay(&self, _why: NotEnded) {
+        if let Some(trace) = self.trace {
+            trace.has_stayed.store(true, Ordering::SeqCst);
         }
     }
 }

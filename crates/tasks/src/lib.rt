@@ -8,8 +8,8 @@
 //!
 //! # Example
 //!
-//! The sum of a text's digits, by halves of the text, from `src/tests.rt`. The task borrows the text, and may be cut `cuts`
-//! times. In this test `gives` allows any output; `crew_tests/src/lengths.rt` has a kind whose `gives` is exact.
+//! The sum of a text's digits, by halves of the text, from `task_tests/src/digits.rt`. The task borrows the text, and may be cut `cuts`
+//! times. In this test `gives` allows any output; `task_tests/src/lengths.rt` has a kind whose `gives` is exact.
 //!
 //! ```text
 //! impl<'p> TaskKind for Digits<'p> {
@@ -41,8 +41,6 @@
 
 mod one_hart;
 mod task;
-#[cfg(test)]
-mod tests;
 
 pub use one_hart::{Four, Ground, Level, Levels16, in_order, run_alone};
 pub use task::{Harts, Task, TaskKind};

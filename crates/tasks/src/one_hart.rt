@@ -1,5 +1,5 @@
 //! One hart, which runs tasks in order.
-ghost use Rattle.std.specs.Prelude.{◌≡◌, ◌≤◌, ◌<◌, ◌+◌, ◌⊎◌, ℕ, All, IfOk, IfErr, alloc_error};
+ghost use Rattle.std.specs.Prelude.{◌≡◌, ◌≤◌, ◌<◌, ◌+◌, ◌⊎◌, ℕ, [], All, IsOk, IfOk, IfErr, alloc_error};
 ghost use Rattle.std.specs.List.{AllZip};
 ghost use Rattle.tasks.specs.Failures.{FirstFailure};
 
@@ -29,6 +29,7 @@ impl<T: TaskKind> Harts<T> for Ground {
         ensures outputs { IfOk result (λ outputs. AllZip T.gives tasks.items outputs.items) }
         ensures error { IfErr result (λ error. FirstFailure T.gives T.fails tasks.items error
             ⊎ T.Error.from_gives alloc_error error) }
+        ensures ok { IsOk result }
     {
         drop(tasks);
         Ok(Vec::new(alloc))
@@ -43,6 +44,7 @@ impl<T: Task, H: Harts<T>> Harts<T> for Level<H> {
         ensures outputs { IfOk result (λ outputs. AllZip T.gives tasks.items outputs.items) }
         ensures error { IfErr result (λ error. FirstFailure T.gives T.fails tasks.items error
             ⊎ T.Error.from_gives alloc_error error) }
+        ensures no_tasks { tasks.items ≡ [] → IsOk result }
         ensures levels { H.levels self.new.0 ≡ H.levels self.old.0 }
     {
         in_order(alloc, &mut self.0, tasks)
@@ -53,7 +55,7 @@ impl<T: Task, H: Harts<T>> Harts<T> for Level<H> {
 ///
 /// # Errors
 ///
-/// The error of the first task that failed, or an allocation failure.
+/// The error of the first task that failed, or an allocation failure. None if the list is empty.
 ///
 /// # Memory
 ///
@@ -67,6 +69,7 @@ pub fn in_order<T: Task, H: Harts<T>>(
     ensures outputs { IfOk result (λ outputs. AllZip T.gives tasks.items outputs.items) }
     ensures error { IfErr result (λ error. FirstFailure T.gives T.fails tasks.items error
         ⊎ T.Error.from_gives alloc_error error) }
+    ensures no_tasks { tasks.items ≡ [] → IsOk result }
     ensures levels { H.levels harts.new ≡ H.levels harts.old }
 {
     let mut outputs = Vec::with_capacity(alloc, tasks.len())?;

@@ -1,5 +1,5 @@
 //! What an author writes, and what the author calls.
-ghost use Rattle.std.specs.Prelude.{◌≡◌, ◌≤◌, ◌<◌, ◌⊎◌, ℕ, All, IfOk, IfErr, alloc_error};
+ghost use Rattle.std.specs.Prelude.{◌≡◌, ◌≤◌, ◌<◌, ◌⊎◌, ℕ, [], All, IsOk, IfOk, IfErr, alloc_error};
 ghost use Rattle.std.specs.List.{AllZip};
 ghost use Rattle.tasks.specs.Failures.{FirstFailure};
 
@@ -56,8 +56,8 @@ pub trait Harts<T: TaskKind> {
     ///
     /// # Errors
     ///
-    /// The error of the first task, in the order of the list, that failed, or an allocation failure. On several harts a task that
-    /// fails stops no other. A hart that runs the tasks in order drops those after the first that fails.
+    /// The error of the first task, in the order of the list, that failed, or an allocation failure. None if the list is empty.
+    /// The tasks behind a failed one that have not begun are dropped; those that run already, on several harts, run to their end.
     ///
     /// # Memory
     ///
@@ -67,5 +67,6 @@ pub trait Harts<T: TaskKind> {
         ensures outputs { IfOk result (λ outputs. AllZip T.gives tasks.items outputs.items) }
         ensures error { IfErr result (λ error. FirstFailure T.gives T.fails tasks.items error
             ⊎ T.Error.from_gives alloc_error error) }
+        ensures no_tasks { tasks.items ≡ [] → IsOk result }
         ensures levels { levels self.new ≡ levels self.old };
 }

@@ -6,6 +6,7 @@ use Rattle.held_tasks.proofs.run.own_outputs.Goals as goal
 pub outputs-init : goal.outputs-init
 outputs-init g c = record {
   left = starts (λ task output. g.V.TaskKind.gives (g.V.Holds.held task) output) g.T.TaskKind.gives c.args.outputs.items (into_iter_items c.into_iter-rest.result) c.in_ok-own.own.items c.into_iter-rest.ensures.rest c.in_ok-own.ensures.items;
+  none = λ e. c.into_iter-rest.ensures.rest ∙ e;
   count = c.into_iter-rest.ensures.len ∙ (c.args.outputs.ok.0 ∙ ap length (sym c.into_iter-rest.ensures.rest));
 }
 
@@ -19,11 +20,16 @@ outputs-preserved g c = record {
       let e : k.0 ≡ c.in-Some-output_of.output = cc in
       subst (λ own. g.T.TaskKind.gives task own) e k.2)
       c.in_ok-push.ensures.items c.outputs.invariant.left;
+  none = λ e. let rest = c.outputs.invariant.none e in let taken = c.in-Some.ensures.items in let no : ⊥ = cc in absurd no;
   count = omega (arith, c.in-Some.ensures.len, c.outputs.invariant.count, ap length c.in-Some.ensures.items);
 }
 
-pub returns : goal.returns
-returns g c =
+pub returns-in_err-push-clause-no_outputs : goal.returns-in_err-push-clause-no_outputs
+returns-in_err-push-clause-no_outputs g c =
+    λ e. let rest = c.outputs.invariant.none e in let taken = c.in-Some.ensures.items in let no : ⊥ = cc in absurd no
+
+pub returns-clause-own : goal.returns-clause-own
+returns-clause-own g c =
     let none = none_of (into_iter_items c.outputs.rest) (into_iter_len c.outputs.rest) c.in_default.ensures.cases.0 c.outputs.invariant.count in
     ends (λ task output. g.V.TaskKind.gives (g.V.Holds.held task) output) g.T.TaskKind.gives c.args.outputs.items (into_iter_items c.outputs.rest) c.outputs.own.items none c.outputs.invariant.left
 

@@ -1,5 +1,5 @@
-use Rattle.std.proofs.Common.{◌≡◌, ◌≤◌, ◌-◌, alloc_error, vec_len, vec_capacity}
-use Rattle.task_sites.specs.Collected.{Collected}
+use Rattle.std.proofs.Common.{◌≡◌, ◌≤◌, ◌-◌, take, vec_len, vec_capacity}
+use Rattle.std.specs.List.{AllZip}
 use Rattle.task_sites.proofs.collect.collect_all.Given as goal
 
 abbrev pub invariant-places : goal.invariant-places
@@ -9,7 +9,7 @@ invariant-places g l = record {
   within : l.place ≤ l.count;
   len : vec_len l.outputs ≤ l.place;
   room : vec_capacity l.outputs ≡ vec_capacity l.fn.outputs;
-  came : Collected g.T.TaskKind.gives g.T.TaskKind.fails (g.T.Error.From.from_gives alloc_error) l.table.table.shared.key.value.items l.place l.outputs.items l.first;
+  came : AllZip g.T.TaskKind.gives (take l.place l.table.table.shared.key.value.items) l.outputs.items;
 }
 
 abbrev pub decreases-places : goal.decreases-places
