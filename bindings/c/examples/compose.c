@@ -55,7 +55,7 @@ int main(int count, char **words) {
     s.rounds = count > 3 ? atol(words[3]) : 200;
     s.tries = count > 4 ? atoi(words[4]) : 20;
     if (report("plain calls", alone, &s, &s.all, s.tries, s.rounds) != 0) return 1;
-    uint32_t status = lend_run(harts, 3, program, &s);
+    lithe_status status = lend_run(harts, 3, program, &s);
     if (status != LITHE_DONE) {
         char text[80];
         lithe_status_text(status, text, sizeof text);

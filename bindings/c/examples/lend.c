@@ -35,13 +35,15 @@ void lend_open(sched *self, hart *me) {
 
 void lend_close(sched *self, hart *me) {
     int tries = 0;
+    lithe_status status;
     self->parent->child_wants(self->parent, me, 0);
     if (lithe_close(&me->at) != LITHE_DONE) abort();
-    while (lithe_unregister(&me->at) != LITHE_DONE)
+    while ((status = lithe_unregister(&me->at)) == LITHE_NOT_EMPTY)
         if (lend_help(self, me))
             tries = 0;
         else
             lend_pause(&tries);
+    if (status != LITHE_DONE) abort();
     me->in = self->parent;
 }
 
@@ -73,11 +75,11 @@ static void *run_hart(void *arg) {
     return NULL;
 }
 
-uint32_t lend_run(int harts, int levels, void (*program)(hart *, void *), void *arg) {
+lithe_status lend_run(int harts, int levels, void (*program)(hart *, void *), void *arg) {
     static base all;
     pthread_t threads[MAX_HARTS];
     lithe_hart made[MAX_HARTS];
-    uint32_t status = lithe_make((uint8_t)levels, made, (size_t)harts);
+    lithe_status status = lithe_make(made, (size_t)harts, (uint8_t)levels);
     if (status != LITHE_DONE) return status;
     scheds = calloc((size_t)(harts * levels + 1), sizeof *scheds);
     all.harts = calloc((size_t)harts, sizeof *all.harts);

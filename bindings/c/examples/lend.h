@@ -41,5 +41,5 @@ void lend_note(sched *self, hart *me, uint16_t site);
 void lend_pause(int *tries);
 
 /* Makes `harts` harts, each with a thread, and runs program(hart 0, arg). Returns a status. */
-uint32_t lend_run(int harts, int levels, void (*program)(hart *, void *), void *arg);
+lithe_status lend_run(int harts, int levels, void (*program)(hart *, void *), void *arg);
 #endif

@@ -42,7 +42,7 @@ static void refused(void) {
         for (int h = 0; h < 8; h++) harts[h].at = &harts[h];
         left = fails;
         long before = blocks;
-        uint32_t status = lithe_make(3, harts, 8);
+        lithe_status status = lithe_make(harts, 8, 3);
         left = -1;
         if (status == LITHE_DONE) {
             MUST(lithe_end(harts, 8) == LITHE_DONE && blocks == before);
@@ -58,7 +58,7 @@ static void million(void) {
     lithe_hart harts[2];
     uint16_t site = 0;
     long empty = blocks;
-    MUST(lithe_make(4, harts, 2) == LITHE_DONE);
+    MUST(lithe_make(harts, 2, 4) == LITHE_DONE);
     long before = allocations, kept = blocks;
     for (long k = 0; k < 250000; k++) {
         for (int level = 0; level < 4; level++) {

@@ -39,7 +39,7 @@ static void visit(roamer *me, int depth) {
     uint16_t before = lithe_owner(&me->hart);
     for (unsigned k = 0; k < sites; k++) {
         uint16_t site = (uint16_t)(1 + (from + k) % sites);
-        uint32_t status = lithe_enter(&me->hart, site);
+        lithe_status status = lithe_enter(&me->hart, site);
         if (status == LITHE_DONE) {
             me->did.entered++;
             atomic_fetch_add(&inside[site], 1);
@@ -63,7 +63,7 @@ static void visit(roamer *me, int depth) {
 static void lead(roamer *me, int depth) {
     uint16_t site = 0, before = lithe_owner(&me->hart);
     if (depth == 0) return;
-    uint32_t status = lithe_register(&me->hart, &site);
+    lithe_status status = lithe_register(&me->hart, &site);
     if (status == LITHE_TOO_DEEP) return;
     MUST(status == LITHE_DONE && site > me->number * LEVELS && site <= (me->number + 1) * LEVELS);
     me->did.registered++;
@@ -103,7 +103,7 @@ int main(int count, char **words) {
     rounds = count > 2 ? atoi(words[2]) : 1000;
     MUST(harts >= 1 && harts <= MOST);
     memset(&all, 0, sizeof all);
-    MUST(lithe_make(LEVELS, made, (size_t)harts) == LITHE_DONE);
+    MUST(lithe_make(made, (size_t)harts, LEVELS) == LITHE_DONE);
     for (int h = 0; h < harts; h++) {
         roamers[h].hart = made[h];
         roamers[h].number = h;

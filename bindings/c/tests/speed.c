@@ -87,10 +87,10 @@ int main(void) {
     pthread_t threads[THREADS];
     lithe_hart many[MOST];
     times all[THREADS], one = {.hart = &harts[0]};
-    MUST(lithe_make(1, many, MOST) == LITHE_DONE);
+    MUST(lithe_make(many, MOST, 1) == LITHE_DONE);
     for (int t = 0; t < TRIES; t++) visit = least(visit, lend(&many[0], &many[1]));
     MUST(lithe_end(many, MOST) == LITHE_DONE);
-    MUST(lithe_make(2, harts, THREADS) == LITHE_DONE);
+    MUST(lithe_make(harts, THREADS, 2) == LITHE_DONE);
     measure(&one);
     for (int h = 0; h < THREADS; h++) {
         all[h].hart = &harts[h];

@@ -20,6 +20,8 @@
 //! guest.yield_hart()?;
 //! home.unregister()?;
 //! ```
+//!
+//! With the feature `runtime` the crate also has fork-join, loops and scopes ready to use, over `liblithe_rt.a`.
 #![warn(missing_docs)]
 
 use std::cell::Cell;
@@ -27,6 +29,11 @@ use std::fmt;
 use std::marker::PhantomData;
 use std::mem::ManuallyDrop;
 use std::ptr;
+
+#[cfg(feature = "runtime")]
+mod runtime;
+#[cfg(feature = "runtime")]
+pub use runtime::*;
 
 /// The number of a site: 1 to harts times levels. 0 is the base.
 pub type Site = u16;
@@ -40,7 +47,7 @@ pub enum Status {
     NotHome = 1,
     /// The hart isn't a guest of the site that it is in.
     NotGuest = 2,
-    /// The site would ask in all for more harts than the other harts of the board.
+    /// The site's wishes and guests would be more than the other harts of the board.
     TooManyWished = 3,
     /// The site is closed.
     IsClosed = 4,
@@ -62,11 +69,13 @@ pub enum Status {
     BadSize = 12,
     /// A hart is in a site: it isn't at the base.
     InSite = 13,
+    /// The site has fewer wishes that no hart has met.
+    TooFewWishes = 15,
     /// The library returned a number that this crate doesn't know.
-    Unknown = 15,
+    Unknown = u32::MAX,
 }
 
-const ALL: [Status; 13] = [
+const ALL: [Status; 14] = [
     Status::NotHome,
     Status::NotGuest,
     Status::TooManyWished,
@@ -80,6 +89,7 @@ const ALL: [Status; 13] = [
     Status::NoMemory,
     Status::BadSize,
     Status::InSite,
+    Status::TooFewWishes,
 ];
 
 fn outcome(number: u32) -> Result<(), Status> {
@@ -108,15 +118,30 @@ struct Raw {
 extern "C" {
     fn lithe_hart_make(levels: u8, harts: *mut Raw, count: usize) -> u32;
     fn lithe_hart_register(hart: *mut Raw, site: *mut u16) -> u32;
+    fn lithe_hart_register_wishing(hart: *mut Raw, count: u8, site: *mut u16) -> u32;
     fn lithe_hart_request(hart: *mut Raw, count: u8) -> u32;
+    fn lithe_hart_withdraw(hart: *mut Raw, count: u8) -> u32;
+    fn lithe_hart_read_home(hart: *mut Raw, wishes: *mut u8, guests: *mut u8) -> u32;
+    fn lithe_hart_read_site(hart: *mut Raw, site: u16, wishes: *mut u8, guests: *mut u8) -> u32;
     fn lithe_hart_enter(hart: *mut Raw, site: u16) -> u32;
     fn lithe_hart_yield(hart: *mut Raw) -> u32;
+    fn lithe_hart_yield_last(hart: *mut Raw, last: *mut u8) -> u32;
     fn lithe_hart_close(hart: *mut Raw) -> u32;
     fn lithe_hart_see_empty(hart: *mut Raw) -> u32;
     fn lithe_hart_unregister(hart: *mut Raw) -> u32;
+    fn lithe_hart_end_if_empty(hart: *mut Raw) -> u32;
     fn lithe_hart_owner(hart: *mut Raw) -> u16;
     fn lithe_hart_drop(hart: Raw);
     fn lithe_status_text(status: u32, text: *mut u8, room: usize) -> usize;
+}
+
+/// The wishes and the guests of a site when a call loaded its word. A site that isn't live has none.
+#[derive(Clone, Copy, Debug, PartialEq, Eq, Hash)]
+pub struct Counts {
+    /// The harts asked for that have not entered.
+    pub wishes: u8,
+    /// The harts that entered and have not left, with those in sites below.
+    pub guests: u8,
 }
 
 /// One hart of a board. It may be sent to another thread, and is in one call at a time. It takes a cache line of its own,
@@ -178,7 +203,50 @@ impl Hart {
         Ok(site)
     }
 
-    /// The owner asks for `count` more harts.
+    /// Registers the hart's next site, which begins with `count` wishes, in one step.
+    ///
+    /// # Errors
+    ///
+    /// [`Status::TooDeep`], else [`Status::TooManyWished`] exactly if `count` is more than the other harts of the board.
+    pub fn register_wishing(&mut self, count: u8) -> Result<Site, Status> {
+        let mut site = 0;
+        outcome(unsafe { lithe_hart_register_wishing(self.at(), count, &mut site) })?;
+        Ok(site)
+    }
+
+    /// Takes back `count` wishes of the owner that no hart has met.
+    ///
+    /// # Errors
+    ///
+    /// In this order: [`Status::NotHome`], [`Status::TooFewWishes`], [`Status::Moved`].
+    pub fn withdraw(&mut self, count: u8) -> Result<(), Status> {
+        outcome(unsafe { lithe_hart_withdraw(self.at(), count) })
+    }
+
+    /// The wishes and guests of the owner. Until this hart's next entry, other harts can only turn a wish into a guest, or leave.
+    ///
+    /// # Errors
+    ///
+    /// [`Status::NotHome`].
+    pub fn read_home(&mut self) -> Result<Counts, Status> {
+        let (mut wishes, mut guests) = (0, 0);
+        outcome(unsafe { lithe_hart_read_home(self.at(), &mut wishes, &mut guests) })?;
+        Ok(Counts { wishes, guests })
+    }
+
+    /// The wishes and guests of a site, as they were at the load.
+    ///
+    /// # Errors
+    ///
+    /// [`Status::NoSuchSite`].
+    pub fn read_site(&mut self, site: Site) -> Result<Counts, Status> {
+        let (mut wishes, mut guests) = (0, 0);
+        outcome(unsafe { lithe_hart_read_site(self.at(), site, &mut wishes, &mut guests) })?;
+        Ok(Counts { wishes, guests })
+    }
+
+    /// The owner asks for `count` more harts. At any one time a site's wishes and guests are at most the other harts of the board;
+    /// once guests have left, it may ask again.
     ///
     /// # Errors
     ///
@@ -203,6 +271,18 @@ impl Hart {
     /// [`Status::NotGuest`].
     pub fn yield_hart(&mut self) -> Result<(), Status> {
         outcome(unsafe { lithe_hart_yield(self.at()) })
+    }
+
+    /// Leaves the owner, in which the hart is a guest, for its parent. Returns whether the owner was closed and the hart its only
+    /// guest: then its home, hart `(site - 1) / levels`, may be waiting for that. A wake may use no memory of the site.
+    ///
+    /// # Errors
+    ///
+    /// [`Status::NotGuest`].
+    pub fn yield_last(&mut self) -> Result<bool, Status> {
+        let mut last = 0;
+        outcome(unsafe { lithe_hart_yield_last(self.at(), &mut last) })?;
+        Ok(last == 1)
     }
 
     /// Closes the owner: no further hart enters it.
@@ -234,6 +314,20 @@ impl Hart {
     /// In this order: [`Status::NotHome`], [`Status::NotClosed`], [`Status::NotEmpty`].
     pub fn unregister(&mut self) -> Result<(), Status> {
         outcome(unsafe { lithe_hart_unregister(self.at()) })
+    }
+
+    /// Closes and ends the owner, if it has no guest, in one step. Its parent is then the hart's owner.
+    ///
+    /// # Errors
+    ///
+    /// In this order: [`Status::NotHome`], [`Status::IsClosed`], [`Status::NotEmpty`], [`Status::Moved`]. The site stays open.
+    pub fn end_if_empty(&mut self) -> Result<(), Status> {
+        outcome(unsafe { lithe_hart_end_if_empty(self.at()) })
+    }
+
+    /// Gives up the hart of a parent's board in a forked child, without a step. Its memory stays allocated in the child.
+    pub fn forget(self) {
+        std::mem::forget(self);
     }
 
     /// Ends the hart, if it is at the base.

@@ -1,4 +1,4 @@
-use lithe::{board, Hart, Site, Status};
+use lithe::{board, Counts, Hart, Site, Status};
 use std::sync::atomic::{AtomicUsize, Ordering::SeqCst};
 use std::thread;
 
@@ -31,6 +31,66 @@ fn one_site() {
     assert_eq!(guest.yield_hart(), Err(Status::NotGuest));
     home.unregister().unwrap();
     assert!(home.end().is_ok() && guest.end().is_ok());
+}
+
+#[test]
+fn one_site_many_rounds() {
+    let mut harts = board(4, 1).unwrap();
+    let mut home = harts.remove(0);
+    let site = home.register().unwrap();
+    for _ in 0..1000 {
+        home.request(3).unwrap();
+        for guest in &mut harts {
+            assert_eq!(home.request(1), Err(Status::TooManyWished));
+            guest.enter(site).unwrap();
+        }
+        assert_eq!(home.request(1), Err(Status::TooManyWished));
+        for guest in &mut harts {
+            guest.yield_hart().unwrap();
+        }
+    }
+    home.close().unwrap();
+    home.unregister().unwrap();
+}
+
+fn counts(wishes: u8, guests: u8) -> Result<Counts, Status> {
+    Ok(Counts { wishes, guests })
+}
+
+#[test]
+fn begins_with_wishes_and_ends_empty() {
+    let mut harts = board(4, 1).unwrap();
+    let mut home = harts.remove(0);
+    assert_eq!(home.register_wishing(4), Err(Status::TooManyWished));
+    assert_eq!(home.end_if_empty(), Err(Status::NotHome));
+    assert_eq!(home.read_home(), Err(Status::NotHome));
+    for _ in 0..1000 {
+        let site = home.register_wishing(3).unwrap();
+        assert_eq!(home.register_wishing(0), Err(Status::TooDeep));
+        harts[0].enter(site).unwrap();
+        assert_eq!(home.read_home(), counts(2, 1));
+        assert_eq!(home.withdraw(3), Err(Status::TooFewWishes));
+        home.withdraw(1).unwrap();
+        harts[1].enter(site).unwrap();
+        assert_eq!(harts[2].enter(site), Err(Status::NotWanted));
+        assert_eq!(harts[2].read_site(site), counts(0, 2));
+        assert_eq!(home.end_if_empty(), Err(Status::NotEmpty));
+        assert_eq!(harts[0].yield_last(), Ok(false));
+        assert_eq!(harts[1].yield_last(), Ok(false));
+        assert_eq!(harts[1].yield_last(), Err(Status::NotGuest));
+        home.end_if_empty().unwrap();
+        assert_eq!(harts[2].read_site(site), counts(0, 0));
+    }
+    let site = home.register_wishing(2).unwrap();
+    harts[0].enter(site).unwrap();
+    harts[1].enter(site).unwrap();
+    home.close().unwrap();
+    assert_eq!(home.end_if_empty(), Err(Status::IsClosed));
+    assert_eq!(harts[1].yield_last(), Ok(false));
+    assert_eq!(harts[0].yield_last(), Ok(true));
+    home.unregister().unwrap();
+    assert_eq!(harts[0].read_site(5), Err(Status::NoSuchSite));
+    harts.pop().unwrap().forget();
 }
 
 #[test]

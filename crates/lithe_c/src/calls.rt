@@ -1,12 +1,12 @@
 //! Each call of a hart: it takes the block from C's pointer, makes the call on it, and returns the block to the pointer.
 ghost use Rattle.std.specs.Prelude.{◌≡◌};
 ghost use Rattle.open_board.specs.Calls.{Registers};
-ghost use Rattle.open_board.specs.Checked.{ChecksRequest, ChecksEnter, ChecksYield, ChecksClose, ChecksLook, ChecksUnregister};
+ghost use Rattle.open_board.specs.Checked.{ChecksRegisterWishing, ChecksEnd, ChecksYieldLast, ChecksWithdraw, ChecksReadHome, ChecksReadSite, ChecksRequest, ChecksEnter, ChecksYield, ChecksClose, ChecksLook, ChecksUnregister};
 ghost use Rattle.open_board.specs.Views.{owner_of};
 ghost use Rattle.lithe_c.specs.Answers.{board_of, view_of};
 
 use crate::hart::LitheHart;
-use open_board::{Entered, Refused, Seen, TooDeep};
+use open_board::{Counts, Entered, Finish, NotRegistered, Refused, Seen, TooDeep, Withdrawn};
 
 pub(crate) fn registered(hart: LitheHart, none: ()) -> (LitheHart, Result<u16, TooDeep>)
     ensures board { board_of result.0.lent ≡ board_of hart.lent }
@@ -14,6 +14,18 @@ pub(crate) fn registered(hart: LitheHart, none: ()) -> (LitheHart, Result<u16, T
 {
     let mut lent = hart.into_box();
     let made = lent.register();
+    (LitheHart::of_box(lent), made)
+}
+
+pub(crate) fn registered_wishing(
+    hart: LitheHart,
+    count: u8,
+) -> (LitheHart, Result<u16, NotRegistered>)
+    ensures board { board_of result.0.lent ≡ board_of hart.lent }
+    ensures does { ChecksRegisterWishing (board_of hart.lent).size (view_of hart.lent) count result.1 (view_of result.0.lent) }
+{
+    let mut lent = hart.into_box();
+    let made = lent.register_wishing(count);
     (LitheHart::of_box(lent), made)
 }
 
@@ -68,6 +80,51 @@ pub(crate) fn unregistered(hart: LitheHart, none: ()) -> (LitheHart, Result<(), 
 {
     let mut lent = hart.into_box();
     let made = lent.unregister();
+    (LitheHart::of_box(lent), made)
+}
+
+pub(crate) fn finished(hart: LitheHart, none: ()) -> (LitheHart, Result<Finish, Refused>)
+    ensures board { board_of result.0.lent ≡ board_of hart.lent }
+    ensures does { ChecksEnd (view_of hart.lent) result.1 (view_of result.0.lent) }
+{
+    let mut lent = hart.into_box();
+    let made = lent.end_if_empty();
+    (LitheHart::of_box(lent), made)
+}
+
+pub(crate) fn yielded_last(hart: LitheHart, none: ()) -> (LitheHart, Result<bool, Refused>)
+    ensures board { board_of result.0.lent ≡ board_of hart.lent }
+    ensures does { ChecksYieldLast (view_of hart.lent) result.1 (view_of result.0.lent) }
+{
+    let mut lent = hart.into_box();
+    let made = lent.yield_last();
+    (LitheHart::of_box(lent), made)
+}
+
+pub(crate) fn withdrawn(hart: LitheHart, count: u8) -> (LitheHart, Result<Withdrawn, Refused>)
+    ensures board { board_of result.0.lent ≡ board_of hart.lent }
+    ensures does { ChecksWithdraw (view_of hart.lent) count result.1 (view_of result.0.lent) }
+{
+    let mut lent = hart.into_box();
+    let made = lent.withdraw(count);
+    (LitheHart::of_box(lent), made)
+}
+
+pub(crate) fn home_read(hart: LitheHart, none: ()) -> (LitheHart, Result<Counts, Refused>)
+    ensures board { board_of result.0.lent ≡ board_of hart.lent }
+    ensures does { ChecksReadHome (view_of hart.lent) result.1 (view_of result.0.lent) }
+{
+    let mut lent = hart.into_box();
+    let made = lent.read_home();
+    (LitheHart::of_box(lent), made)
+}
+
+pub(crate) fn site_read(hart: LitheHart, site: u16) -> (LitheHart, Result<Counts, Refused>)
+    ensures board { board_of result.0.lent ≡ board_of hart.lent }
+    ensures does { ChecksReadSite (board_of hart.lent).size (view_of hart.lent) site result.1 (view_of result.0.lent) }
+{
+    let mut lent = hart.into_box();
+    let made = lent.read_site(site);
     (LitheHart::of_box(lent), made)
 }
 

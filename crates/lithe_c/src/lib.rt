@@ -33,7 +33,7 @@
 
 ghost use Rattle.std.specs.Prelude.{◌≡◌, ◌⊎◌, ◌<◌, ◌≢◌, length};
 ghost use Rattle.open_board.specs.Views.{owner_of};
-ghost use Rattle.lithe_c.specs.Answers.{view_of, ReturnsRegister, ReturnsRequest, ReturnsEnter, ReturnsYield, ReturnsClose, ReturnsLook, ReturnsUnregister};
+ghost use Rattle.lithe_c.specs.Answers.{view_of, ReturnsRegister, ReturnsRequest, ReturnsEnter, ReturnsYield, ReturnsClose, ReturnsLook, ReturnsUnregister, ReturnsRegisterWishing, ReturnsEnd, ReturnsYieldLast, ReturnsWithdraw, ReturnsReadHome, ReturnsReadSite};
 ghost use Rattle.lithe_c.specs.Making.{MakesOrKeeps};
 ghost use Rattle.lithe_c.specs.Status.{EndsText};
 
@@ -101,13 +101,32 @@ pub extern "C" fn lithe_hart_register(hart: &mut LitheHart, site: &mut u16) -> u
     status::of_register(made)
 }
 
+/// Registers a site, as `lithe_hart_register` does, and requests `count` harts there. One store.
+///
+/// Returns 8 (too deep) exactly if the hart is the home of as many sites as the board has levels, else 3 (too many wished)
+/// exactly if `count` is more than the board's other harts. Nothing changes then.
+#[unsafe(no_mangle)]
+pub extern "C" fn lithe_hart_register_wishing(
+    hart: &mut LitheHart,
+    count: u8,
+    site: &mut u16,
+) -> u32
+    ensures { ReturnsRegisterWishing hart.old.lent count site.old result site.new hart.new.lent }
+{
+    let made = replace_with(hart, count, calls::registered_wishing);
+    if let Ok(number) = made {
+        *site = number;
+    }
+    status::of_register_wishing(made)
+}
+
 /// Requests `count` more harts at the owner. A load and an addition.
 ///
 /// Returns, in this order:
 ///
 /// - 1 (not home) if the hart isn't the home of its owner,
 /// - 4 (is closed) if the hart closed it,
-/// - 3 (too many wished) if the site would have requested in all more than the board's other harts.
+/// - 3 (too many wished) if the site's wishes and guests, by the loaded word, and the count are more than the board's other harts.
 ///
 /// The call requests no hart then.
 #[unsafe(no_mangle)]
@@ -142,6 +161,76 @@ pub extern "C" fn lithe_hart_yield(hart: &mut LitheHart) -> u32
     ensures { ReturnsYield hart.old.lent result hart.new.lent }
 {
     status::of_call(replace_with(hart, (), calls::yielded))
+}
+
+/// Leaves the owner as `lithe_hart_yield` does, and writes into `last` whether the owner was closing and the hart its only guest:
+/// 1 if so, else 0. With 1 the owner is empty, and no hart enters it. One subtraction.
+///
+/// Returns 2 (not guest) if the hart isn't a guest of its owner. Nothing changes then.
+#[unsafe(no_mangle)]
+pub extern "C" fn lithe_hart_yield_last(hart: &mut LitheHart, last: &mut u8) -> u32
+    ensures { ReturnsYieldLast hart.old.lent last.old result last.new hart.new.lent }
+{
+    let made = replace_with(hart, (), calls::yielded_last);
+    if let Ok(was_last) = made {
+        *last = if was_last { 1 } else { 0 };
+    }
+    status::of_call(made)
+}
+
+/// Takes back `count` wishes of the owner that no hart has met. A load, and an exchange if the loaded word has so many.
+///
+/// Returns, in this order:
+///
+/// - 1 (not home) if the hart isn't the home of its owner,
+/// - 15 (too few wishes) if the loaded word has fewer,
+/// - 10 (moved) if the exchange found another word: a hart entered or left in between.
+///
+/// The wishes stay then.
+#[unsafe(no_mangle)]
+pub extern "C" fn lithe_hart_withdraw(hart: &mut LitheHart, count: u8) -> u32
+    ensures { ReturnsWithdraw hart.old.lent count result hart.new.lent }
+{
+    status::of_withdraw(replace_with(hart, count, calls::withdrawn))
+}
+
+/// Writes the wishes and the guests of the owner, whose home the hart is. Until the hart's next entry their sum doesn't grow. A load.
+///
+/// Returns 1 (not home) if the hart isn't the home of its owner. Nothing is written then.
+#[unsafe(no_mangle)]
+pub extern "C" fn lithe_hart_read_home(
+    hart: &mut LitheHart,
+    wishes: &mut u8,
+    guests: &mut u8,
+) -> u32
+    ensures { ReturnsReadHome hart.old.lent wishes.old guests.old result wishes.new guests.new hart.new.lent }
+{
+    let made = replace_with(hart, (), calls::home_read);
+    if let Ok(counts) = made {
+        *wishes = counts.wishes;
+        *guests = counts.guests;
+    }
+    status::of_call(made)
+}
+
+/// Writes the wishes and the guests of the site at the moment of the load. Both are 0 for a site that isn't live. A load.
+///
+/// Returns 7 (no such site) if the number isn't 1 to harts times levels. Nothing is written then.
+#[unsafe(no_mangle)]
+pub extern "C" fn lithe_hart_read_site(
+    hart: &mut LitheHart,
+    site: u16,
+    wishes: &mut u8,
+    guests: &mut u8,
+) -> u32
+    ensures { ReturnsReadSite hart.old.lent site wishes.old guests.old result wishes.new guests.new hart.new.lent }
+{
+    let made = replace_with(hart, site, calls::site_read);
+    if let Ok(counts) = made {
+        *wishes = counts.wishes;
+        *guests = counts.guests;
+    }
+    status::of_call(made)
 }
 
 /// Closes the owner: no further hart may enter it. A load and an addition.
@@ -179,6 +268,24 @@ pub extern "C" fn lithe_hart_unregister(hart: &mut LitheHart) -> u32
     ensures { ReturnsUnregister hart.old.lent result hart.new.lent }
 {
     status::of_call(replace_with(hart, (), calls::unregistered))
+}
+
+/// Closes and ends the owner, if it has no guest. Its parent is then the hart's owner. A load, and an exchange if the loaded word
+/// has no guest.
+///
+/// Returns, in this order:
+///
+/// - 1 (not home) if the hart isn't the home of its owner,
+/// - 4 (is closed) if the hart closed it,
+/// - 6 (not empty) if the loaded word has a guest,
+/// - 10 (moved) if the exchange found another word: a hart entered in between.
+///
+/// The site stays open then.
+#[unsafe(no_mangle)]
+pub extern "C" fn lithe_hart_end_if_empty(hart: &mut LitheHart) -> u32
+    ensures { ReturnsEnd hart.old.lent result hart.new.lent }
+{
+    status::of_end(replace_with(hart, (), calls::finished))
 }
 
 /// The site that the hart is in; 0 is the base. No step.

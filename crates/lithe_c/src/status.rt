@@ -1,8 +1,8 @@
 //! The statuses of calls for C: a number, and a text for each number.
 ghost use Rattle.std.specs.Prelude.{◌≡◌};
-ghost use Rattle.lithe_c.specs.Status.{refusal_status, plain_status, register_status, enter_status, look_status};
+ghost use Rattle.lithe_c.specs.Status.{refusal_status, plain_status, register_status, register_wishing_status, enter_status, look_status, end_status, withdraw_status};
 
-use open_board::{Entered, Refused, Seen, TooDeep};
+use open_board::{Entered, Finish, NotRegistered, Refused, Seen, TooDeep, Withdrawn};
 
 // `lithe.h` has the same numbers.
 pub(crate) const DONE: u32 = 0;
@@ -35,6 +35,8 @@ const IN_SITE: u32 = 13;
 
 const NO_HART: u32 = 14;
 
+const TOO_FEW_WISHES: u32 = 15;
+
 fn of_refused(refused: Refused) -> u32
     ensures { result ≡ refusal_status refused }
 {
@@ -49,11 +51,11 @@ fn of_refused(refused: Refused) -> u32
     }
 }
 
-pub(crate) fn of_call(made: Result<(), Refused>) -> u32
+pub(crate) fn of_call<T: Copy>(made: Result<T, Refused>) -> u32
     ensures { result ≡ plain_status made }
 {
     match made {
-        Ok(()) => DONE,
+        Ok(_) => DONE,
         Err(refused) => of_refused(refused),
     }
 }
@@ -64,6 +66,16 @@ pub(crate) fn of_register(made: Result<u16, TooDeep>) -> u32
     match made {
         Ok(_) => DONE,
         Err(TooDeep) => TOO_DEEP,
+    }
+}
+
+pub(crate) fn of_register_wishing(made: Result<u16, NotRegistered>) -> u32
+    ensures { result ≡ register_wishing_status made }
+{
+    match made {
+        Ok(_) => DONE,
+        Err(NotRegistered::TooDeep) => TOO_DEEP,
+        Err(NotRegistered::TooManyWished) => TOO_MANY_WISHED,
     }
 }
 
@@ -88,13 +100,35 @@ pub(crate) fn of_look(made: Result<Seen, Refused>) -> u32
     }
 }
 
+pub(crate) fn of_end(made: Result<Finish, Refused>) -> u32
+    ensures { result ≡ end_status made }
+{
+    match made {
+        Ok(Finish::Gone) => DONE,
+        Ok(Finish::Busy { .. }) => NOT_EMPTY,
+        Ok(Finish::Moved { .. }) => MOVED,
+        Err(refused) => of_refused(refused),
+    }
+}
+
+pub(crate) fn of_withdraw(made: Result<Withdrawn, Refused>) -> u32
+    ensures { result ≡ withdraw_status made }
+{
+    match made {
+        Ok(Withdrawn::Done) => DONE,
+        Ok(Withdrawn::TooFew { .. }) => TOO_FEW_WISHES,
+        Ok(Withdrawn::Moved { .. }) => MOVED,
+        Err(refused) => of_refused(refused),
+    }
+}
+
 /// One line for the status, at most 79 bytes.
 pub(crate) fn text(status: u32) -> &'static str {
     match status {
         DONE => "done",
         NOT_HOME => "the hart isn't the home of the site that it is in",
         NOT_GUEST => "the hart isn't a guest of the site that it is in",
-        TOO_MANY_WISHED => "the site would ask for more harts than the others of the board",
+        TOO_MANY_WISHED => "the site's wishes and guests would be more than the other harts",
         IS_CLOSED => "the site is closed",
         NOT_CLOSED => "the site isn't closed",
         NOT_EMPTY => "the site has a guest",
@@ -106,6 +140,7 @@ pub(crate) fn text(status: u32) -> &'static str {
         BAD_SIZE => "a board has 1 to 64 harts and 1 to 64 levels",
         IN_SITE => "a hart is in a site",
         NO_HART => "the hart has ended, or was never made",
+        TOO_FEW_WISHES => "the site has fewer wishes that no hart has met",
         _ => "no status has that number",
     }
 }

@@ -40,6 +40,7 @@ join_keeps z s k id v at seat zeroth other w apart there seat_w base =
               hart = know.hart ∙ sym hit.0;
               stack = know.stack ∙ ap k.table.stacks (sym hit.0);
               mine = know.mine ∙ ap (λ (q : ℕ). made_by q k.journal) (sym hit.0);
+              most = know.most;
               made = λ first. know.made (sym hit.0 ∙ first) ∙ sym count;
               joined = λ first. ap (λ (es : List Ended). es ++ e ∷ []) (know.joined (sym hit.0 ∙ first));
             }))
@@ -48,6 +49,7 @@ join_keeps z s k id v at seat zeroth other w apart there seat_w base =
               hart = o.hart;
               stack = o.stack;
               mine = o.mine;
+              most = o.most;
               made = λ first. absurd (miss.0 (first ∙ sym id_zero));
               joined = λ first. absurd (miss.0 (first ∙ sym id_zero));
             })
