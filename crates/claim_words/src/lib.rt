@@ -1,5 +1,5 @@
 //! Claim counters: atomic words by which harts claim the members of a phase without a lock. Each member is claimed by one hart,
-//! once. A table has a counter for each phase of each team (a "row"). `row_tests` has examples.
+//! once. A table has a counter for each phase of each team (a "row"). `board_tests` has examples.
 #![tactic(auto)]
 
 mod claimed;

@@ -3,7 +3,7 @@
 //! A context holds one machine in a box. A fresh context runs; a running context may be paused and resumed, or blocked,
 //! unblocked and resumed; a running context that is done is ended. Each state is a type, and each change keeps the machine. A
 //! paused or blocked context may be dropped with its machine; a context in another state must be passed to the next call.
-//! `src/tests.rt` and `turn_tests/src/alone.rt` have examples.
+//! `table_tests` and `scheduler_tests` have examples.
 #![tactic(auto)]
 
 mod context;
@@ -14,6 +14,3 @@ pub use context::{
     ctx_resume, ctx_run, ctx_unblock,
 };
 pub use machine::{Machine, Step};
-
-#[cfg(test)]
-mod tests;

@@ -1,6 +1,6 @@
 //! Work-stealing deques of job indices. Each hart has three, one for each nesting level. The hart pushes and pops at one end,
 //! and other harts steal at the other. The account (`specs/Account.antt`) states that each pushed index is popped or stolen
-//! once, or remains. `row_tests` has examples.
+//! once, or remains. `board_tests` has examples.
 #![tactic(auto)]
 
 mod account;

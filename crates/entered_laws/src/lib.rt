@@ -2,7 +2,7 @@
 //! ended as the meaning enters it (unregistered if entered, otherwise skipped), the journal is complete.
 //!
 //! The crate holds definitions and laws. No code here runs: each function's contract is a law, and its body is empty. Begin
-//! with `specs/Meant.antt`; `transfer_table` has accounts, and the tests of `check_tests` show which sites programs enter.
+//! with `specs/Meant.antt`; `transfer_table` has accounts, and the tests of `language_tests` show which sites programs enter.
 #![tactic(auto)]
 
 ghost use Rattle.entered_laws.specs.Meant.{PartsAreSpans, ProgramsAreParts, EnteredIsComplete, EverySiteHasAFlag, AllSitesAreEntered};

@@ -2,7 +2,7 @@
 //! the meaning enters those of one side.
 //!
 //! A run's journal is compared with these sites: they are registered, and all others skipped. Begin with `entered` in
-//! `walk.rt`; the tests of `check_tests` have examples.
+//! `walk.rt`; the tests of `language_tests` have examples.
 #![tactic(auto)]
 
 mod accepted;

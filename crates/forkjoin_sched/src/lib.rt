@@ -3,7 +3,7 @@
 //! A `Pool` is for one hart. Harts share a `SharedPool`, each by a hand of its own. The home of the site offers the pool's
 //! jobs: it pushes their job indices onto its deque, from which it pops and guests steal, without the lock of the pool.
 //!
-//! Begin with `Pool` in `pool.rt`, then `PoolHand` in `calls.rt`; the tests of `pool_tests` run pools with one hart and with
+//! Begin with `Pool` in `pool.rt`, then `PoolHand` in `calls.rt`; the tests of `scheduler_tests` run pools with one hart and with
 //! threads.
 #![tactic(auto)]
 

@@ -1,5 +1,5 @@
 -- The sites that a hart opens for all harts.
-use Rattle.std.specs.Prelude.{◌≡◌, map, option_map, IfSome, Option, Some, None}
+use Rattle.std.specs.Prelude.{◌≡◌, ◌≢◌, ℕ, map, option_map, IfSome, Option, Some, None}
 use Rattle.array_tree.specs.Trees.{statement_of}
 use Rattle.array_jobs.specs.Jobs.{job_of}
 use Rattle.step_eval.specs.Nests.{NestedParts, nested_of, phases_of, jobs_in, IsFitNest}
@@ -7,6 +7,10 @@ use Rattle.forkjoin_sched.specs.Shared.{SharedParts}
 use Rattle.shared_sites.specs.declared.shared_site.SharedSite.{SharedSite}
 use Rattle.pipe_sched.specs.Pipes.{IsUncrossed}
 use Rattle.shared_sites.specs.declared.shared_site.SharedSite.TheVariants.{Pool, Team, Pipe, Alone}
+use Rattle.shared_sites.specs.declared.scheduler_ref.SchedulerRef.{SchedulerRef}
+use Rattle.shared_sites.specs.declared.scheduler_ref.SchedulerRef.TheVariants.{NoScheduler}
+use Rattle.shared_sites.specs.Identities.{HartLocalIdentities}
+use Rattle.shared_sites.specs.References.{Fits, IsRefTo}
 use Rattle.hart_loop.specs.declared.hart_site.Placement.{Placement}
 use Rattle.hart_loop.specs.declared.hart_site.Placement.TheVariants.{Base, Published, Kept}
 use Rattle.hart_loop.specs.declared.hart_site.HartSite.{HartSite}
@@ -38,3 +42,13 @@ IsMadeFor (Some shared) nested = IsMadeOf nested shared
 -- The scheduler of a site that the hart opened was made for its construct.
 abbrev pub IsOpened : {S : Type 0} → (S → SharedSite) → HartSite S → Type 0
 IsOpened held site = IfSome site.opened (IsMadeFor (option_map held (kept_in site.placement)))
+
+-- The reference is to the scheduler of a site of this level, and the hart has a hand on the scheduler by it.
+pub record IsHand (k : HartLocalIdentities) (shared : SharedSite) (level : ℕ) (found : SchedulerRef) : Type 0 where
+  pub fits : Fits k found
+  pub finds : IsRefTo k shared level found
+  pub some : found ≢ NoScheduler
+
+-- The hart has a hand on the scheduler of a site of this level.
+abbrev pub HasHand : HartLocalIdentities → SharedSite → ℕ → Type 0
+HasHand k shared level = (found : SchedulerRef) × IsHand k shared level found

@@ -1,10 +1,12 @@
 //! One site, as one of several harts has it.
-ghost use Rattle.std.specs.Prelude.{◌≡◌, IfOk, IsSome, IfSome, Some, option_map};
+ghost use Rattle.std.specs.Prelude.{◌≡◌, IfOk, IsSome, IfSome, None, Some, option_map};
+ghost use Rattle.std.specs.Option.{ForSome};
 ghost use Rattle.step_eval.specs.Nests.{NestedParts, nested_of, nested_writes};
-ghost use Rattle.shared_sites.specs.References.{Fits, site_at};
+ghost use Rattle.shared_sites.specs.References.{Fits, IsRefTo, site_at};
+ghost use Rattle.shared_sites.specs.declared.scheduler_ref.SchedulerRef.TheVariants.{NoScheduler};
 ghost use Rattle.shared_sites.specs.Completed.{IsCompleted};
 ghost use Rattle.hart_loop.specs.Facts.{number_in};
-ghost use Rattle.hart_loop.specs.Openings.{IsOpened, kept_in};
+ghost use Rattle.hart_loop.specs.Openings.{HasHand, IsOpened, kept_in};
 
 use crate::in_directory::InDirectory;
 use crate::opened::{publish, shared_site, written_by};
@@ -84,12 +86,28 @@ impl<'a, 'p, S: InDirectory<'p>> HartSite<'a, 'p, S> {
         HartSite::new(Placement::Base(base), None, 0)
     }
 
-    /// A site that another hart opened.
-    pub(crate) fn found(shared: &'a S, level: u8) -> HartSite<'a, 'p, S>
-        ensures made { IsOpened S.held result }
-        ensures number { number_in S.held result ≡ site_at (S.held shared.now) }
+    /// A site that another hart opened. `None` exactly if this hart has no hand on its scheduler.
+    pub(crate) fn found(
+        shared: &'a S,
+        level: u8,
+        hart_local: &HartLocal<'_>,
+    ) -> Option<HartSite<'a, 'p, S>>
+        ensures made { ForSome result (IsOpened S.held) }
+        ensures number { ForSome result
+            (λ site. number_in S.held site ≡ site_at (S.held shared.now)) }
+        ensures hand { ForSome result
+            (λ site. HasHand hart_local.now (S.held shared.now) level) }
+        ensures none { result ≡ None → IsRefTo hart_local.now (S.held shared.now) level NoScheduler }
     {
-        HartSite::new(Placement::Published(shared), None, level)
+        match hart_local.scheduler_ref(shared.shared(), level) {
+            SchedulerRef::NoScheduler => None,
+            SchedulerRef::Base(_)
+            | SchedulerRef::Pool(_)
+            | SchedulerRef::Team(_)
+            | SchedulerRef::Pipe(_) => {
+                Some(HartSite::new(Placement::Published(shared), None, level))
+            }
+        }
     }
 
     /// Makes a scheduler for the construct, and publishes it for all harts, unless there is no room for its pieces.

@@ -95,14 +95,15 @@ impl<'a, 'p, S: InDirectory<'p>, R: Wait> Sites<R, JobMachines<'p>> for HartSite
         site.wishes(&self.hart_local)
     }
 
-    /// Blocks until the site is in the directory. `None` if the directory has the scheduler of another site there.
+    /// Blocks until the site is in the directory. `None` if the directory has the scheduler of another site there, or this hart
+    /// has no hand on the scheduler. A hart that finds no site doesn't try to enter it.
     fn find(&mut self, rt: &R, number: u16) -> Option<HartSite<'a, 'p, S>> {
         let cell = self.site_cells.get_mut(usize::from(number))?;
         let shared = cell.until_found(rt);
         if shared.shared().site() != number {
             return None;
         }
-        Some(HartSite::found(shared, self.hart_local.level(number)))
+        HartSite::found(shared, self.hart_local.level(number), &self.hart_local)
     }
 
     fn number(&self, site: &HartSite<'a, 'p, S>) -> u16 {

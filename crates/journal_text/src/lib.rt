@@ -1,7 +1,7 @@
 //! The text of a journal: `transfers N`, and a line for each entry.
 //!
 //! A run prints its journal in this form, and an audit reads it. Begin with `write_entries` in `write.rt` and `read_entries` in
-//! `read.rt`. `src/tests.rt` and `command_tests` have examples.
+//! `read.rt`. `command_tests` has examples.
 #![tactic(auto)]
 
 mod fault;
@@ -13,6 +13,3 @@ mod write;
 pub use fault::TextFault;
 pub use read::{cut_line, read_entries};
 pub use write::write_entries;
-
-#[cfg(test)]
-mod tests;

@@ -1,7 +1,7 @@
 //! A mutex that blocks contexts, not harts.
 //!
 //! A held mutex keeps a context that acquires it, and the context's hart does other work. On `release` the holder's value goes
-//! to the context that waited longest. `src/tests.rt` has examples.
+//! to the context that waited longest. `table_tests` has examples.
 #![tactic(auto)]
 
 pub mod laws;
@@ -10,6 +10,3 @@ mod state;
 
 pub use shared::{LitheMutex, Reply};
 pub use state::{Acquired, MutexState, Released};
-
-#[cfg(test)]
-mod tests;

@@ -3,7 +3,7 @@
 //! A `Team` is for one hart. Harts share a `SharedTeam`, each by a hand of its own, and claim its members by a `ClaimTable`.
 //!
 //! The members of one phase run at once, and the team opens the next phase when all have arrived. Begin with `Team` in
-//! `team.rt`, then `TeamHand` in `hand.rt`; the tests of `team_tests` run teams with one hart and with threads.
+//! `team.rt`, then `TeamHand` in `hand.rt`; the tests of `scheduler_tests` run teams with one hart and with threads.
 #![tactic(auto)]
 
 mod found;

@@ -3,7 +3,7 @@
 //!
 //! The top call of `lithe_call` reads its input from a `Source` and writes its output to a `Sink`, so that its contract covers
 //! programs and tests alike. The programs read their words by `words_of`. Begin with `Source` in `source.rt` and `Sink` in
-//! `sink.rt`; `src/tests.rt` has examples.
+//! `sink.rt`; `command_tests` has examples.
 #![tactic(auto)]
 
 mod failing;
@@ -21,6 +21,3 @@ pub use source::{Fill, Source};
 pub use standard::{StdSink, StdSource};
 pub use sure::{SureSink, SureSource};
 pub use words::{NoWords, words_of};
-
-#[cfg(test)]
-mod tests;

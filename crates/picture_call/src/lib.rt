@@ -7,7 +7,7 @@
 //!
 //! # Example
 //!
-//! From `picture_call_tests/src/serving.rt`, for words such as `["text", "--harts", "2"]`.
+//! From `lithe_tests/src/serving.rt`, for words such as `["text", "--harts", "2"]`.
 //!
 //! ```text
 //! let mut own = Vec::new(alloc);

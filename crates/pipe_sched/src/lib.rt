@@ -4,7 +4,9 @@
 //! have done that next phase. The state knows which piece is due, and the state of each piece. A `Pipe` is the scheduler over
 //! it, for one hart. Harts share a `SharedPipe`, each by a hand of its own.
 //!
-//! Begin with `PipeState` in `state.rt` and `handing.rt`; the tests of `pipe_tests` run pipes with one hart and with threads.
+//! Which constructs may be pipes, `pipe_walk` checks; its calls are given out here too.
+//!
+//! Begin with `PipeState` in `state.rt` and `handing.rt`; the tests of `scheduler_tests` run pipes with one hart and with threads.
 #![tactic(auto)]
 
 mod filling;
@@ -22,5 +24,6 @@ mod under_lock;
 pub use hand::PipeHand;
 pub use looks::{Found, Looks};
 pub use pipe::{Pipe, PipeHeard, PipeSeal, PipeWork};
+pub use pipe_walk::{PipeFault, pipe_check, uncrossed};
 pub use shared::SharedPipe;
 pub use state::PipeState;

@@ -6,7 +6,7 @@
 //! So each phase costs its walk, and one pass over the touched cells, or over all cells if a dynamic index touches an array.
 //!
 //! `lithe pipe` calls `pipe_check` before a run, and a home calls `uncrossed` before it opens a pipe. Begin with `pipe_check`
-//! in `check.rt`; the tests of `pipe_tests` check programs that cross and programs that don't.
+//! in `check.rt`; the tests of `scheduler_tests` check programs that cross and programs that don't.
 #![tactic(auto)]
 
 mod cells;

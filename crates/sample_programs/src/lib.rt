@@ -3,14 +3,14 @@
 //!
 //! Each error is a failure of the test: a text that spells no program, a program that isn't accepted, or an allocation failure.
 //!
-//! Begin with `programs.rt`, which has the texts; the tests of `pool_tests` and `team_tests` use all of it.
+//! Begin with `programs.rt`, which has the texts; the tests of `piece_tests` and `scheduler_tests` use all of it.
 #![tactic(auto)]
 
 mod answers;
 mod constructs;
 mod programs;
 
-pub use answers::{Answer, Came, TOLD, outcome_of, receipts};
+pub use answers::{Came, outcome_of};
 pub use constructs::{first_construct, first_jobs, piece_at, waiting};
 pub use programs::{
     BOTH_BRANCHES, BOTH_PHASES, FIRST_PHASE, SECOND_PHASE, TWO_BRANCHES, TWO_PHASES, accepted,

@@ -8,7 +8,7 @@
 //! come to it, in the order in which the schedulers of constructs hand it out.
 //!
 //! Begin with the trait `Scheduler` in `scheduler.rt`. `base_sched` and `turn_sched` are schedulers of this interface, and
-//! `src/tests.rt` and `src/agenda_tests.rt` have examples.
+//! `table_tests` has examples.
 #![tactic(auto)]
 
 mod agenda;
@@ -26,8 +26,3 @@ pub use primitives::{
 };
 pub use scheduler::{Lent, Next, Scheduler};
 pub use wishes::Wishes;
-
-#[cfg(test)]
-mod agenda_tests;
-#[cfg(test)]
-mod tests;

@@ -8,7 +8,7 @@
 //! which it has no deque or counters.
 //!
 //! `hart_loop` accesses shared schedulers only by this crate. Begin with `SiteCell` in `directory.rt`, `HartLocal` in `hart_local.rt` and
-//! `SchedulerRef` in `scheduler_ref.rt`; the tests of `shared_tests` publish and find schedulers, those of `harts_tests` run whole programs.
+//! `SchedulerRef` in `scheduler_ref.rt`; the tests of `harts_tests` publish and find schedulers, and run whole programs.
 #![tactic(auto)]
 
 mod claims;

@@ -3,15 +3,13 @@
 //!
 //! `PatientPort` is a port that can wait for other harts. A single hart's port never waits, and `WaitingPort` wraps any port so
 //! that its waits may last. `SiteTree` is a plan with the children of each site in order. Begin with `finish_site` in
-//! `ending.rt` and `sweep_children` in `sweeping.rt`; `src/tests.rt` has examples.
+//! `ending.rt` and `sweep_children` in `sweeping.rt`; `table_tests` has examples.
 #![tactic(auto)]
 
 mod ending;
 mod patience;
 mod skipping;
 mod sweeping;
-#[cfg(test)]
-mod tests;
 mod tree;
 mod waiting;
 

@@ -2,7 +2,7 @@
 //! its own, which are added up after the construct.
 //!
 //! `lithe tally` runs a program that `spread` has changed. Begin with `spread` in `program.rt`; the laws are in `spread_laws`,
-//! and the tests of `tally_tests` spread programs and run them.
+//! and the tests of `language_tests` spread programs and run them.
 #![tactic(auto)]
 
 mod adds;

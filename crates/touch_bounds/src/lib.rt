@@ -1,7 +1,7 @@
 //! Static analysis of a program's text: bounds of the values of expressions, and of the cells that statements touch.
 //!
 //! The checkers use it before they walk: if the text shows that the pieces of a round are apart, they don't walk the round.
-//! Begin with `branches_are_apart` in `round.rt` and its law in `laws.rt`; the tests of `check_tests` show which texts are
+//! Begin with `branches_are_apart` in `round.rt` and its law in `laws.rt`; the tests of `language_tests` show which texts are
 //! settled and which aren't.
 #![tactic(auto)]
 

@@ -2,7 +2,7 @@
 //! counts its guests.
 //!
 //! The crate names the types of `lent_board`, which has the calls, for this layout. `docs/BOARD.md` explains the protocol, and
-//! `wide_tests` has examples.
+//! `board_tests` has examples.
 #![tactic(auto)]
 
 pub use hart_port::{Entered, Seen, Taken};

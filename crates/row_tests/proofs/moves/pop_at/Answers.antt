@@ -1,5 +1,0 @@
-use Rattle.deque_rows.proofs.Callers.{one_moved}
-use Rattle.row_tests.proofs.moves.pop_at.Goals as goal
-
-pub returns : goal.returns
-returns c = one_moved c.args.rows.now c.args.hart c.pop.new.self c.index-rows-hart.result c.pop.ensures.identity

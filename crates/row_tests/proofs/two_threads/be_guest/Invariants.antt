@@ -1,6 +1,0 @@
-use Rattle.std.proofs.Common.{◌≡◌}
-use Rattle.deque_rows.specs.Rows.{identity}
-use Rattle.row_tests.proofs.two_threads.be_guest.Given as goal
-
-abbrev pub invariant-loop : goal.invariant-loop
-invariant-loop g l = identity l.guest ≡ identity l.initial.guest

@@ -1,6 +1,0 @@
-use Rattle.std.proofs.Common.{◌≡◌, map}
-use Rattle.deque_rows.specs.Rows.{identity}
-use Rattle.row_tests.proofs.two_threads.take_rest.Given as goal
-
-abbrev pub invariant-loop : goal.invariant-loop
-invariant-loop g l = map identity l.rows ≡ map identity l.initial.rows

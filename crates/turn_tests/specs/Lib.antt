@@ -1,2 +1,0 @@
--- Definitions for the tests' contracts.
-pub mod Family
