@@ -3,11 +3,10 @@
 //! Why the board has a name in its type: a seat goes through tasks of any kind, whose contracts state nothing about it. By the
 //! name each seat is known to be one of the crew's board when the run ends.
 ghost use Rattle.std.specs.Prelude.{◌≡◌, ◌<◌, ◌≤◌};
-ghost use Rattle.open_board.specs.Calls.{Registers};
-ghost use Rattle.open_board.specs.Checked.{ChecksRequest, ChecksEnter, ChecksYield, ChecksClose, ChecksUnregister};
+ghost use Rattle.open_board.specs.Checked.{ChecksRegisterWishing, ChecksEnter, ChecksYield, ChecksClose, ChecksEnd, ChecksUnregister};
 ghost use Rattle.open_board.specs.Views.{owner_of};
 
-use open_board::{Entered, OpenBoard, OpenSeat, Refused, Size, TooDeep};
+use open_board::{Entered, Finish, NotRegistered, OpenBoard, OpenSeat, Refused, Size};
 use std::marker::{Brand, Model, PhantomData};
 
 /// The board of a crew. Each run picks it.
@@ -126,26 +125,16 @@ impl<B: Naming> CrewBoard<B> {
         self.board.size()
     }
 
-    /// Registers the next of the hart's sites as a child of its owner. Returns the site's number.
+    /// Registers the next of the hart's sites as a child of its owner, and requests `count` harts there, in one step. Returns the
+    /// site's number.
     ///
     /// # Errors
     ///
-    /// `TooDeep` exactly if the hart is the home of as many sites as the board has levels.
-    pub fn register(&self, seat: &mut CrewSeat<B>) -> Result<u16, TooDeep>
-        ensures { Registers seat.old.seat.me.0 result seat.new.seat.me.0 }
+    /// `TooDeep` or `TooManyWished`, as `OpenBoard::checked_register_wishing`.
+    pub fn register_wishing(&self, seat: &mut CrewSeat<B>, count: u8) -> Result<u16, NotRegistered>
+        ensures { ChecksRegisterWishing self.now.size seat.old.seat.me.0 count result seat.new.seat.me.0 }
     {
-        self.board.register(&mut seat.seat)
-    }
-
-    /// Requests `count` more harts at the owner.
-    ///
-    /// # Errors
-    ///
-    /// `NotHome`, `IsClosed` or `TooManyWished`, as `OpenBoard::checked_request`.
-    pub fn request(&self, seat: &mut CrewSeat<B>, count: u8) -> Result<(), Refused>
-        ensures { ChecksRequest self.now.size seat.old.seat.me.0 count result seat.new.seat.me.0 }
-    {
-        self.board.checked_request(&mut seat.seat, count)
+        self.board.checked_register_wishing(&mut seat.seat, count)
     }
 
     /// Tries to enter the site as a guest.
@@ -179,6 +168,17 @@ impl<B: Naming> CrewBoard<B> {
         ensures { ChecksClose seat.old.seat.me.0 result seat.new.seat.me.0 }
     {
         self.board.checked_close(&mut seat.seat)
+    }
+
+    /// Closes and ends the owner in one step, if it has no guest.
+    ///
+    /// # Errors
+    ///
+    /// `NotHome` or `IsClosed`, as `OpenBoard::checked_end_if_empty`.
+    pub fn end_if_empty(&self, seat: &mut CrewSeat<B>) -> Result<Finish, Refused>
+        ensures { ChecksEnd seat.old.seat.me.0 result seat.new.seat.me.0 }
+    {
+        self.board.checked_end_if_empty(&mut seat.seat)
     }
 
     /// Ends the owner if it is closed and has no guest.

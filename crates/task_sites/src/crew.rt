@@ -49,8 +49,8 @@ impl<T: TaskKind, B: Naming> Crew<T, B> {
             board: CrewBoard::new(board),
             size,
             cells: empty_cells(alloc, sites)?,
-            wishes: padded_words(alloc, size.harts)?,
-            perches: Perches::new(alloc, size.harts)?,
+            wishes: padded_words(alloc, size.harts as usize)?,
+            perches: Perches::new(alloc, size.harts, size.levels)?,
             run: Countdown::new(1),
         })
     }

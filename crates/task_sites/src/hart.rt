@@ -7,7 +7,7 @@ use crate::crew::Crew;
 use crate::observer::Observer;
 use crate::site::Site;
 use crossbeam_utils::Backoff;
-use open_board::{Entered, OpenSeat, Refused};
+use open_board::{Entered, Finish, OpenSeat, Refused};
 use std::alloc::Global;
 use std::cell::{Cell, RefCell};
 use std::sync::{Arc, Wait};
@@ -100,29 +100,32 @@ impl<'c, T: TaskKind, R, B: Naming> Hart<'c, T, R, B> {
 
 impl<'c, T: TaskKind, R: Wait, B: Naming> Hart<'c, T, R, B> {
     /// Registers a site for the tasks below the hart's owner and requests so many harts. Returns the site's number, or `None`
-    /// if the hart is the home of as many sites as the board has levels: nothing is changed then.
+    /// if the hart is the home of as many sites as the board has levels: nothing is changed then. A hart that rests at the owner
+    /// wakes, unless another hart searches there.
     pub(crate) fn open(&self, tasks: &Arc<Site<T>, Global>, wish: u8) -> Option<u16> {
         let parent = self.owner();
-        let site = self.register()?;
-        if self.crew.lay(self.rt, site, tasks) && self.request(wish) {
+        let site = self.register_wishing(wish)?;
+        if self.crew.lay(self.rt, site, tasks) {
             self.show_wish(site, true);
-            self.crew.perches.wake(parent, wish as usize);
+            if self.crew.perches.is_quiet(parent) {
+                self.crew.perches.wake_searcher(self.rt, parent);
+            }
         }
         Some(site)
     }
 
-    // Registers a site below the hart's owner.
-    fn register(&self) -> Option<u16> {
+    // Registers a site below the hart's owner, and requests so many harts there.
+    fn register_wishing(&self, wish: u8) -> Option<u16> {
         match self.seat.try_borrow_mut() {
-            Ok(mut seat) => self.crew.board.register(&mut seat).ok(),
+            Ok(mut seat) => self.crew.board.register_wishing(&mut seat, wish).ok(),
             Err(_) => None,
         }
     }
 
-    // Requests so many harts at the site of which the hart is the home. Returns whether the board made the request.
-    fn request(&self, wish: u8) -> bool {
+    // Ends the site of which the hart is the home if no guest is inside. Returns whether it has.
+    fn has_ended_empty(&self) -> bool {
         match self.seat.try_borrow_mut() {
-            Ok(mut seat) => self.crew.board.request(&mut seat, wish).is_ok(),
+            Ok(mut seat) => self.crew.board.end_if_empty(&mut seat) == Ok(Finish::Gone),
             Err(_) => false,
         }
     }
@@ -145,12 +148,20 @@ impl<'c, T: TaskKind, R: Wait, B: Naming> Hart<'c, T, R, B> {
         }
     }
 
-    /// Closes the site of which the hart is the home, waits until its guests have left, and ends it.
+    /// Ends the site of which the hart is the home, once its guests have left. No further hart enters it.
     pub(crate) fn shut(&self, site: u16) {
         self.show_wish(site, false);
-        self.close();
+        let has_ended = self.has_ended_empty();
         self.crew.clear(self.rt, site);
-        self.crew.perches.wake(site, self.crew.size.harts as usize);
+        if !has_ended {
+            self.close();
+            self.crew.perches.wake(site, self.crew.size.harts as usize);
+            self.wait_until_empty(site);
+        }
+    }
+
+    // Ends the closed site of which the hart is the home, once its guests have left.
+    fn wait_until_empty(&self, site: u16) {
         let backoff = Backoff::new();
         'looks: for _ in self.rt.forever() {
             if self.has_unregistered() {
@@ -185,7 +196,10 @@ impl<'c, T: TaskKind, R: Wait, B: Naming> Hart<'c, T, R, B> {
         if !has_ended {
             perches.sleep(self.rt, hart);
         }
-        let _chosen = perches.retract(hart);
+        if perches.retract(hart) {
+            // (no task inside the site is left, so there is no wish to look for)
+            let _last = perches.end_search(site);
+        }
         has_ended
     }
 
@@ -246,32 +260,58 @@ impl<'c, T: TaskKind, R: Wait, B: Naming> Hart<'c, T, R, B> {
     fn wake_home(&self, site: u16) {
         let levels = self.crew.size.levels.max(1) as u16;
         let home = site.wrapping_sub(1).wrapping_div(levels);
-        self.crew.perches.wake_hart((home % 256) as u8, site);
+        self.crew
+            .perches
+            .wake_hart(self.rt, (home % 256) as u8, site);
     }
 
-    /// Sleeps at the hart's owner until there is a wish below it, or the count is down. Returns the tasks of a site that the
-    /// hart has entered instead, if there was a wish.
-    pub(crate) fn rest(&self, left: &Countdown) -> Option<Arc<Site<T>, Global>> {
+    /// Begins to search for sites to enter, below the hart's owner, and returns the owner.
+    pub(crate) fn begin_search(&self) -> u16 {
         let owner = self.owner();
-        self.crew.perches.announce(self.number, owner);
+        self.crew.perches.begin_search(owner);
+        owner
+    }
+
+    /// Ends the search below the owner. If no other hart searches there and there is a wish, one that rests there wakes.
+    pub(crate) fn end_search(&self, owner: u16) {
+        let perches = &self.crew.perches;
+        if perches.end_search(owner) && perches.any_rests() && self.is_wished() {
+            perches.wake_searcher(self.rt, owner);
+        }
+    }
+
+    // Whether a hart shows a wish.
+    fn is_wished(&self) -> bool {
+        for home in 0..self.crew.size.harts {
+            if self.crew.wishes_of(home) != 0 {
+                return true;
+            }
+        }
+        false
+    }
+
+    /// Sleeps at the hart's owner, below which it searches, until there is a wish or the count is down. Returns the tasks of a
+    /// site that the hart has entered instead, if there was a wish. The hart searches again afterwards.
+    pub(crate) fn rest(&self, left: &Countdown, owner: u16) -> Option<Arc<Site<T>, Global>> {
+        let perches = &self.crew.perches;
+        perches.announce(self.number, owner);
+        let _last = perches.end_search(owner);
         if left.is_down() {
-            self.pass_on(owner);
+            self.search_again(owner);
             return None;
         }
         let entered = self.enter_wish();
-        if entered.is_some() {
-            self.pass_on(owner);
-        } else {
-            self.crew.perches.sleep(self.rt, self.number);
-            let _chosen = self.crew.perches.retract(self.number);
+        if entered.is_none() {
+            perches.sleep(self.rt, self.number);
         }
+        self.search_again(owner);
         entered
     }
 
-    // Takes back that the hart rests. If another hart had chosen to wake it, a further hart that rests there wakes instead.
-    fn pass_on(&self, owner: u16) {
-        if self.crew.perches.retract(self.number) {
-            self.crew.perches.wake(owner, 1);
+    // Takes back that the hart rests. If another hart has chosen to wake it, that one has counted it among those that search.
+    fn search_again(&self, owner: u16) {
+        if !self.crew.perches.retract(self.number) {
+            self.crew.perches.begin_search(owner);
         }
     }
 }

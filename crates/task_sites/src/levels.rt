@@ -8,8 +8,8 @@ use crate::board::Naming;
 use crate::countdown::Countdown;
 use crate::hart::Hart;
 use crate::observer::Observer;
+use crate::patience::Patience;
 use crate::site::Site;
-use crossbeam_utils::Backoff;
 use std::alloc::{AllocError, Global};
 use std::marker::PhantomData;
 use std::sync::Arc;
@@ -302,23 +302,30 @@ fn wait_for_end<T: Task, R: Observer, B: Naming, L: Levels<T, R, B>>(
     hart: &Hart<'_, T, R, B>,
     left: &Countdown,
 ) {
-    let backoff = Backoff::new();
+    if left.is_down() {
+        return;
+    }
+    let owner = hart.begin_search();
+    let mut patience = Patience::new();
     'looks: for _ in hart.rt.forever() {
         if left.is_down() {
+            hart.end_search(owner);
             return;
         }
-        let entered = if backoff.is_completed() {
-            backoff.reset();
-            hart.rest(left)
+        let entered = if patience.is_over() {
+            patience.reset();
+            hart.rest(left, owner)
         } else {
             hart.enter_wish()
         };
         match entered {
             Some(site) => {
+                hart.end_search(owner);
                 visit::<T, R, B, L>(alloc, hart, &site);
-                backoff.reset();
+                let _owner = hart.begin_search();
+                patience.reset();
             }
-            None => backoff.snooze(),
+            None => patience.pause(),
         }
     }
     unreachable!()

@@ -26,6 +26,7 @@ mod crew;
 mod hart;
 mod levels;
 mod observer;
+mod patience;
 mod perches;
 mod site;
 
