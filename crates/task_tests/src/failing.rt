@@ -7,7 +7,7 @@ use std::sync::Wait;
 use std::sync::atomic::{AtomicU64, Ordering};
 use std::test::Fail;
 use std::thread::Threads;
-use task_crew::{RunError, run_on};
+use task_crew::{RunError, run_on_eight_levels};
 use tasks::{Harts, Task, TaskKind};
 
 /// Why a count has no output.
@@ -95,7 +95,7 @@ fn failure<R: Threads + Wait + Sync>(
         number: 0,
         ended: &ended,
     };
-    let why = run_on(rt, alloc, harts, levels, task).err();
+    let why = run_on_eight_levels(rt, alloc, harts, levels, task).err();
     (why, ended.load(Ordering::SeqCst))
 }
 
@@ -129,16 +129,16 @@ fn wrong_numbers_start_nothing(rt: HostRuntime) -> Result<(), Fail> {
         (Some(RunError::HartCount(65)), 0)
     );
     assert_eq!(rt;
-        failure(&rt, rt.alloc(), 0, 17),
+        failure(&rt, rt.alloc(), 0, 9),
         (Some(RunError::HartCount(0)), 0)
     );
     assert_eq!(rt;
-        failure(&rt, rt.alloc(), 1, 17),
-        (Some(RunError::LevelCount(17)), 0)
+        failure(&rt, rt.alloc(), 1, 9),
+        (Some(RunError::LevelCount(9)), 0)
     );
     assert_eq!(rt;
-        failure(&rt, rt.alloc(), 4, 17),
-        (Some(RunError::LevelCount(17)), 0)
+        failure(&rt, rt.alloc(), 4, 9),
+        (Some(RunError::LevelCount(9)), 0)
     );
     Ok(())
 }

@@ -9,7 +9,7 @@ use std::sync::atomic::{AtomicU64, Ordering};
 use std::test::Fail;
 use std::thread::Threads;
 use std::time::{Clock, Duration};
-use task_crew::run_observed;
+use task_crew::run_observed_eight_levels;
 use task_sites::Observer;
 use task_trace::{Trace, TraceError, Traced};
 
@@ -62,7 +62,7 @@ fn a_clock_that_fails_is_reported(rt: HostRuntime) -> Result<(), Fail> {
             came: &came,
         };
         let handle = Traced::new(&clock, Some(&trace));
-        let count = run_observed(&handle, rt.alloc(), 1, 1, tree);
+        let count = run_observed_eight_levels(&handle, rt.alloc(), 1, 1, tree);
         assert_eq!(rt; count, Ok(3));
         drop(handle);
         let why = trace.into_events(rt.alloc()).err();
@@ -126,7 +126,7 @@ fn without_a_trace_nothing_is_kept(rt: HostRuntime) -> Result<(), Fail> {
     assert!(rt; !handle.is_on());
     handle.task_begins(0, 0);
     handle.task_ends(0);
-    let count = run_observed(&handle, rt.alloc(), 2, 1, tree);
+    let count = run_observed_eight_levels(&handle, rt.alloc(), 2, 1, tree);
     assert_eq!(rt; count, Ok(3));
     Ok(())
 }

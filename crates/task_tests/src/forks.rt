@@ -9,7 +9,7 @@ use std::sync::Wait;
 use std::sync::atomic::{AtomicU64, Ordering};
 use std::test::Fail;
 use std::thread::Threads;
-use task_crew::{run_observed, run_on};
+use task_crew::{run_observed_eight_levels, run_on_eight_levels};
 use task_loops::{Map, Mapped, Part, Sum};
 use task_matrix::Times;
 use task_nested::{Rows, Work};
@@ -60,7 +60,7 @@ where
 {
     let begun = AtomicU64::new(0);
     let handle = Counting { rt, begun: &begun };
-    match run_observed(&handle, alloc, harts, levels, task) {
+    match run_observed_eight_levels(&handle, alloc, harts, levels, task) {
         Ok(_) => begun.load(Ordering::SeqCst),
         Err(_) => 0,
     }
@@ -209,7 +209,7 @@ fn two_leaves_of_a_loop_meet_on_two_harts(rt: HostRuntime) -> Result<(), Fail> {
             elements: b"ab",
             map: Meets { gate: &gate },
         };
-        let images = run_on(&rt, rt.alloc(), 2, 1, Part::whole(fold, 1, 0)).ok();
+        let images = run_on_eight_levels(&rt, rt.alloc(), 2, 1, Part::whole(fold, 1, 0)).ok();
         assert!(rt; images.is_some());
         assert!(rt; !gate.has_run_out());
         assert_eq!(rt; gate.count(), 2);
@@ -245,7 +245,10 @@ fn two_leaves_of_a_search_meet_on_two_harts(rt: HostRuntime) -> Result<(), Fail>
             wanted: &wanted,
             levels: 1,
         };
-        assert_eq!(rt; run_on(&rt, rt.alloc(), 2, 1, search), Ok(None));
+        assert_eq!(rt;
+            run_on_eight_levels(&rt, rt.alloc(), 2, 1, search),
+            Ok(None)
+        );
         assert!(rt; !gate.has_run_out());
         assert_eq!(rt; gate.count(), 2);
     }

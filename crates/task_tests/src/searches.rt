@@ -3,7 +3,7 @@ ghost use Rattle.std.specs.Prelude.{◌==◌, ◌%◌};
 
 use std::alloc::{AllocError, Global};
 use std::test::Fail;
-use task_crew::run_on;
+use task_crew::run_on_eight_levels;
 use task_search::{Search, Tree, Wanted};
 
 /// The multiples of seven.
@@ -33,13 +33,13 @@ pub(crate) fn doubles(alloc: Global, value: u64, levels: u8) -> Result<Tree<u64>
 #[test]
 fn the_first_in_preorder_is_found_on_four_harts(rt: HostRuntime) -> Result<(), Fail> {
     let tree = doubles(rt.alloc(), 1, 12)?;
-    for levels in [0u8, 1, 5, 16] {
+    for levels in [0u8, 1, 5, 8] {
         let search = Search {
             tree: &tree,
             wanted: &Sevens,
             levels,
         };
-        let found = run_on(&rt, rt.alloc(), 4, levels, search);
+        let found = run_on_eight_levels(&rt, rt.alloc(), 4, levels, search);
         assert_eq!(rt; found, Ok(Some(&2051)), "by {levels} levels");
     }
     Ok(())

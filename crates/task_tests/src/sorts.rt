@@ -2,7 +2,7 @@
 use std::alloc::{AllocError, Global};
 use std::cmp::Reverse;
 use std::test::Fail;
-use task_crew::run_on;
+use task_crew::run_on_eight_levels;
 use task_sort::{SHORTEST, Sort};
 use tasks::run_alone;
 
@@ -57,7 +57,7 @@ fn one_two_and_a_thousand_keys_are_sorted_on_four_harts(rt: HostRuntime) -> Resu
             cuts: 6,
             shortest: 100,
         };
-        let sorted = run_on(&rt, rt.alloc(), 4, 6, sort).ok();
+        let sorted = run_on_eight_levels(&rt, rt.alloc(), 4, 6, sort).ok();
         assert!(rt; sorted == Some(expected), "{keys} keys");
     }
     Ok(())

@@ -9,7 +9,7 @@ use crate::gates::Gate;
 use std::alloc::{AllocError, Global};
 use std::sync::atomic::{AtomicU64, Ordering};
 use std::test::Fail;
-use task_crew::{RunError, run_on};
+use task_crew::{RunError, run_on_eight_levels};
 use tasks::{Harts, Task, TaskKind};
 
 /// The number of the holder.
@@ -111,7 +111,7 @@ fn tasks_behind_a_failed_one_do_not_begin(rt: HostRuntime) -> Result<(), Fail> {
             number: 0,
             shared: &shared,
         };
-        let outcome = run_on(&rt, rt.alloc(), 2, 2, task);
+        let outcome = run_on_eight_levels(&rt, rt.alloc(), 2, 2, task);
         assert_eq!(rt; outcome, Err(RunError::Task(AllocError)));
         assert_eq!(rt; shared.numbers.load(Ordering::SeqCst), 4);
         assert!(rt; !shared.begun.has_run_out());

@@ -202,6 +202,44 @@ fn leaves_within_eight<R: Threads + Wait + Sync>(
     run_on_eight_levels(rt, alloc, harts, levels, task)
 }
 
+// The number of leaves of a tree with so many levels and one branch in each, by the run that has at most sixteen.
+fn leaves_within_sixteen<R: Threads + Wait + Sync>(
+    rt: &R,
+    alloc: Global,
+    harts: u8,
+    levels: u8,
+) -> Result<u64, RunError<AllocError>> {
+    let gate = Gate::new(1);
+    let task = Tree {
+        levels,
+        width: 1,
+        lopsided: false,
+        quiet: false,
+        gate: &gate,
+    };
+    run_on(rt, alloc, harts, levels, task)
+}
+
+#[test]
+fn sixteen_levels_run_and_a_seventeenth_is_refused(rt: HostRuntime) -> Result<(), Fail> {
+    for harts in [1u8, 4] {
+        assert_eq!(rt; leaves_within_sixteen(&rt, rt.alloc(), harts, 16), Ok(1));
+        assert_eq!(rt;
+            leaves_within_sixteen(&rt, rt.alloc(), harts, 17),
+            Err(RunError::LevelCount(17))
+        );
+    }
+    assert_eq!(rt;
+        leaves_within_sixteen(&rt, rt.alloc(), 0, 17),
+        Err(RunError::HartCount(0))
+    );
+    assert_eq!(rt;
+        leaves_within_sixteen(&rt, rt.alloc(), 65, 16),
+        Err(RunError::HartCount(65))
+    );
+    Ok(())
+}
+
 #[test]
 fn eight_levels_run_and_a_ninth_is_refused(rt: HostRuntime) -> Result<(), Fail> {
     for harts in [1u8, 2, 4] {
