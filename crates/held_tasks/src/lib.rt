@@ -2,7 +2,8 @@
 //!
 //! A kind of tasks that [`Holds`] another can contain it. A library defines its own kind of tasks, and writes its procedure
 //! over any `V: Holds<Own>` and `H: Harts<V>`, with [`fork_join_as`] instead of `fork_join`, or [`join_as`] for two tasks. So
-//! the procedure runs inside the tasks of an application, and inside its own.
+//! the procedure runs inside the tasks of an application, and inside its own. An application whose kind holds two libraries'
+//! tasks runs one of each at once by [`join_two`].
 //!
 //! # Example
 //!
@@ -22,6 +23,8 @@
 
 mod holds;
 mod run;
+mod two;
 
 pub use holds::Holds;
 pub use run::{fork_join_as, join_as};
+pub use two::join_two;
