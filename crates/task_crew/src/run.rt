@@ -47,7 +47,7 @@ pub(crate) type FourMore<L> = OneMore<OneMore<OneMore<OneMore<L>>>>;
 ///
 /// # Memory
 ///
-/// On two harts and more: `64 * (harts * levels + 1)` bytes for the board, a few words for each of the `harts * levels` sites,
+/// On two harts and more: `64 * (harts * levels + 1)` bytes for the board, some 200 bytes for each of the `harts * levels` sites,
 /// and some cache lines for each hart.
 pub fn run_on<T: Task + Send, R: Threads + Wait + Sync>(
     rt: &R,

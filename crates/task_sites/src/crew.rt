@@ -38,7 +38,7 @@ impl<T: TaskKind, B: Naming> Crew<T, B> {
     ///
     /// # Memory
     ///
-    /// For each site a cell of a few words, and for each hart some cache lines.
+    /// For each site a cell of a few words and a padded word (128 bytes), and for each hart two padded words.
     pub fn new(alloc: Global, board: OpenBoard) -> Result<Crew<T, B>, AllocError>
         requires board { board.table.shared.table_id ≡ B.table }
         requires size { board.size ≡ B.size }
