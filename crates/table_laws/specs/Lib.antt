@@ -1,0 +1,4 @@
+pub mod Planned
+pub mod Agreement
+pub mod Laws
+pub mod Example

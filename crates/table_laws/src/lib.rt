@@ -1,0 +1,38 @@
+//! The laws between the two tables of transfers: the planned table (`transfer_table`), whose sites stand in a plan, and the open
+//! table (`open_table`), whose sites come and go.
+//!
+//! An open run makes a plan as it goes: each Register adds a site, with a fresh number, below the hart's owner. The run's transfers
+//! are legal for this plan, and complete if the run has ended. So what the planned table allows is one definition for both tables.
+//!
+//! The crate holds definitions and laws. No code here runs: each function's contract is a law, and its body is empty. Begin with
+//! `specs/Planned.antt`; `specs/Example.antt` has a run of two harts.
+#![tactic(auto)]
+
+ghost use Rattle.table_laws.specs.Laws.{PlansAreTrees, OpenRunsAreLegal, EndedRunsAreComplete, LegalRunsAskFew};
+ghost use Rattle.table_laws.specs.Example.{IsWorkedExample};
+
+/// In the plan of an open run each parent has a smaller number than its site.
+pub fn plans_are_trees()
+    ensures { PlansAreTrees }
+{}
+
+/// The transfers of an open run are legal for the run's plan, and lead to the run's state, if no site requests more harts in its
+/// life than there are others.
+pub fn open_runs_are_legal()
+    ensures { OpenRunsAreLegal }
+{}
+
+/// They are complete if the run has ended.
+pub fn ended_runs_are_complete()
+    ensures { EndedRunsAreComplete }
+{}
+
+/// They are legal only if no site requests more harts in its life than there are others.
+pub fn legal_runs_ask_few()
+    ensures { LegalRunsAskFew }
+{}
+
+/// A run of two harts that the open table allows, its plan and its transfers there.
+pub fn worked_example()
+    ensures { IsWorkedExample }
+{}
