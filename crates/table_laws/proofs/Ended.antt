@@ -1,5 +1,5 @@
 -- A run that has ended is complete.
-use Rattle.std.proofs.Common.{◌≡◌, ℕ, zero, suc, ◌+◌, ◌-◌, ◌<◌, ◌≤◌, nat_le, Bool, true, false, cond, if◌then◌else◌, ◌==◌, List, [], ◌∷◌, ◌++◌, length, replicate, get_or, sym, ap, refl, ◌∙◌, arith, ⊎_elim, eq-eqb}
+use Rattle.std.proofs.Common.{◌≡◌, ℕ, zero, suc, ◌+◌, ◌-◌, ◌<◌, ◌≤◌, nat_le, Bool, true, false, cond, if◌then◌else◌, ◌==◌, List, [], ◌∷◌, ◌++◌, length, replicate, get_or, sym, ap, refl, ◌∙◌, arith, eq-eqb}
 use Rattle.std.proofs.lemmas.Bool.Decides.{nat_tests}
 use Rattle.std.proofs.lemmas.List.Sums.{sum_by-append}
 use mathlib.Core.Logic.{dite}
@@ -8,7 +8,8 @@ use Rattle.transfer_table.specs.Plan.{site_count}
 use Rattle.transfer_table.specs.Table.{TableState, row}
 use Rattle.transfer_table.specs.Journal.{AllGone, AreMeant, all_meant}
 use Rattle.transfer_table.specs.Entry.{site_of, is_register, registers}
-use Rattle.transfer_table.specs.declared.entry.Stage.TheVariants.{Gone}
+use Rattle.transfer_table.specs.declared.entry.Stage.TheVariants.{New, Live, Gone}
+use Rattle.transfer_table.specs.declared.entry.Stage.{Stage}
 use Rattle.transfer_table.specs.declared.entry.Entry.{Entry}
 use Rattle.transfer_table.specs.declared.entry.Entry.TheVariants.{Register, Request, Enter, Yield, Unregister}
 use Rattle.open_table.specs.declared.table.Size.{Size}
@@ -19,7 +20,7 @@ use Rattle.open_table.specs.declared.table.Entry.{Entry as OpenEntry}
 use Rattle.open_table.specs.Table.{TableState as OpenState, first_state as open_start, after}
 use Rattle.open_table.proofs.Ways.{no_site_is_left}
 use Rattle.table_laws.specs.Planned.{Numbering, no_sites, numbered, numbered_by, parents_in, parents_from, plan_of_run, transfers_in, transfers_from, planned}
-use Rattle.table_laws.specs.Agreement.{Agrees}
+use Rattle.table_laws.specs.Agreement.{Agrees, AreBegun}
 use Rattle.table_laws.specs.Laws.{EndedRunsAreComplete}
 use Rattle.table_laws.proofs.Runs.{open_runs_are_legal}
 
@@ -82,13 +83,16 @@ all_registered z es s site =
 
 -- ---- each site is gone
 
-all_gone : (z : Size) (es : List OpenEntry) (t : OpenState) (u : TableState) → Agrees z t (numbered_by no_sites es) (plan_of_run z es) u → ((x : ℕ) → (t.rows x).live ≡ false) → AllGone (plan_of_run z es) u
-all_gone z es t u A none s site = let count = count_of_run es open_start no_sites in let high = site.1 in ⊎_elim
-    (λ (g : (row u s).stage ≡ Gone). g)
-    (λ (l : (x : ℕ) × ((t.rows x).live ≡ true) × ((numbered_by no_sites es).number x ≡ s)). let live = l.1 in let dead = none l.0 in absurd (cc))
-    (A.others s site (omega arith))
+all_gone : (z : Size) (es : List OpenEntry) (t : OpenState) (u : TableState) → Agrees z t (numbered_by no_sites es) (plan_of_run z es) u → AreBegun (numbered_by no_sites es) (plan_of_run z es) u
+    → ((x : ℕ) → (t.rows x).live ≡ false) → AllGone (plan_of_run z es) u
+all_gone z es t u A B none s site = by_stage (row u s).stage refl
+  where
+    by_stage : (g : Stage) → (row u s).stage ≡ g → (row u s).stage ≡ Gone
+    by_stage New e = let count = count_of_run es open_start no_sites in let high = site.1 in absurd (B.begun s site (omega arith) e)
+    by_stage Live e = let l = A.others s site e in let live = l.1 in let dead = none l.0 in absurd (cc)
+    by_stage Gone e = e
 
 pub ended_runs_are_complete : EndedRunsAreComplete
 ended_runs_are_complete z es t reached few based =
     let l = open_runs_are_legal z es t reached few in
-    (l.0, l.1, all_gone z es t l.0 l.2 (no_site_is_left z es t reached based), all_registered z es)
+    (l.0, l.1, all_gone z es t l.0 l.2 l.3 (no_site_is_left z es t reached based), all_registered z es)

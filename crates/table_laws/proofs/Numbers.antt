@@ -55,46 +55,51 @@ kept_numbers t n e old N = record {
   apart = λ x y a b. N.apart x y (was_live t e old x a) (was_live t e old y b);
 }
 
-module _ (t : TableState) (n : Numbering) (N : HasNumbers t n) (x : ℕ) (some : x ≢ 0) (dead : (t.rows x).live ≡ false) (r' : Row) where
-  -- The numbers after a Register of site x.
+-- Site x, which isn't live, gets the number q, which no live site has.
+module _ (t : TableState) (n : Numbering) (N : HasNumbers t n) (x q c : ℕ) (some : x ≢ 0) (dead : (t.rows x).live ≡ false) (r' : Row)
+    (low : 1 ≤ q) (high : q ≤ c) (more : n.count ≤ c) (free : (y : ℕ) → (t.rows y).live ≡ true → n.number y ≢ q) where
   abbrev next : ℕ → ℕ
-  next = put x (n.count + 1) n.number
+  next = put x q n.number
 
-  pub next_here : next x ≡ n.count + 1
-  next_here = put-here x (n.count + 1) n.number x refl
+  pub next_here : next x ≡ q
+  next_here = put-here x q n.number x refl
 
   pub next_there : (y : ℕ) → y ≢ x → next y ≡ n.number y
-  next_there y ne = put-there x (n.count + 1) n.number y ne
+  next_there y ne = put-there x q n.number y ne
 
-  pub next_base : next 0 ≡ 0
+  next_base : next 0 ≡ 0
   next_base = next_there 0 (λ e. some (sym e)) ∙ N.base
 
   -- A place isn't the new site.
   pub next_place : (y : ℕ) → IsPlace t y → next y ≡ n.number y
   next_place y is = next_there y (λ e. ⊎_elim
       (λ (z : y ≡ 0). some (sym e ∙ z))
-      (λ (l : (t.rows y).live ≡ true). true_false l (subst (λ (q : ℕ). (t.rows q).live ≡ false) (sym e) dead))
+      (λ (l : (t.rows y).live ≡ true). true_false l (subst (λ (w : ℕ). (t.rows w).live ≡ false) (sym e) dead))
       is)
 
   pub old_live : (y : ℕ) → y ≢ x → (put x r' t.rows y).live ≡ true → (t.rows y).live ≡ true
   old_live y ne l = sym (ap (λ (r : Row). r.live) (put-there x r' t.rows y ne)) ∙ l
 
-  next_known : (y : ℕ) → (put x r' t.rows y).live ≡ true → (1 ≤ next y) × (next y ≤ n.count + 1)
+  next_known : (y : ℕ) → (put x r' t.rows y).live ≡ true → (1 ≤ next y) × (next y ≤ c)
   next_known y l = dite (ℕ_discrete y x)
-      (λ e. let z : next y ≡ n.count + 1 = put-here x (n.count + 1) n.number y e in (omega arith, omega arith))
+      (λ e. let z : next y ≡ q = put-here x q n.number y e in (omega arith, omega arith))
       (λ ne. let z = next_there y ne in let k = N.known y (old_live y ne l) in let a = k.0 in let b = k.1 in (omega arith, omega arith))
 
   next_apart : (y w : ℕ) → (put x r' t.rows y).live ≡ true → (put x r' t.rows w).live ≡ true → next y ≡ next w → y ≡ w
   next_apart y w a b e = dite (ℕ_discrete y x)
       (λ yx. dite (ℕ_discrete w x)
       (λ wx. yx ∙ sym wx)
-      (λ wn. let z : next y ≡ n.count + 1 = put-here x (n.count + 1) n.number y yx in let v = next_there w wn in let k = (N.known w (old_live w wn b)).1 in absurd (omega arith)))
+      (λ wn. absurd (free w (old_live w wn b) (sym (next_there w wn) ∙ (sym e ∙ put-here x q n.number y yx)))))
       (λ yn. dite (ℕ_discrete w x)
-      (λ wx. let z : next w ≡ n.count + 1 = put-here x (n.count + 1) n.number w wx in let v = next_there y yn in let k = (N.known y (old_live y yn a)).1 in absurd (omega arith))
+      (λ wx. absurd (free y (old_live y yn a) (sym (next_there y yn) ∙ (e ∙ put-here x q n.number w wx))))
       (λ wn. N.apart y w (old_live y yn a) (old_live w wn b) (sym (next_there y yn) ∙ (e ∙ next_there w wn))))
 
-  pub new_numbers : (stacks : ℕ → List Post) → HasNumbers record { stacks = stacks; rows = put x r' t.rows } record { count = n.count + 1; number = next }
+  pub new_numbers : (stacks : ℕ → List Post) → HasNumbers record { stacks = stacks; rows = put x r' t.rows } record { count = c; number = next }
   new_numbers stacks = record { base = next_base; known = next_known; apart = next_apart }
+
+-- No live site has the next number.
+pub next_free_number : (t : TableState) (n : Numbering) → HasNumbers t n → (y : ℕ) → (t.rows y).live ≡ true → n.number y ≢ n.count + 1
+next_free_number t n N y l e = let k = (N.known y l).1 in absurd (omega arith)
 
 -- The site of a Register is not the base, and not live.
 pub fresh_site : (z : Size) (t : TableState) → Sound z t → (h x : ℕ) → Admits z t record { hart = h; act = Register x } → (x ≢ 0) × ((t.rows x).live ≡ false)
@@ -106,7 +111,7 @@ fresh_site z t S h x ok =
 pub numbers_after : (z : Size) (t : TableState) (n : Numbering) → Sound z t → (h : ℕ) (a : Act) → Admits z t record { hart = h; act = a } → HasNumbers t n
     → HasNumbers (after t record { hart = h; act = a }) (numbered a n)
 numbers_after z t n S h (Register x) ok N =
-    let f = fresh_site z t S h x ok in new_numbers t n N x f.0 f.1 _ _
+    let f = fresh_site z t S h x ok in new_numbers t n N x (n.count + 1) (n.count + 1) f.0 f.1 _ (omega arith) (omega arith) (omega arith) (next_free_number t n N) _
 numbers_after z t n S h (Request x k) ok N = kept_numbers t n record { hart = h; act = Request x k } refl N
 numbers_after z t n S h (Withdraw x k) ok N = kept_numbers t n record { hart = h; act = Withdraw x k } refl N
 numbers_after z t n S h (Enter x) ok N = kept_numbers t n record { hart = h; act = Enter x } refl N

@@ -7,6 +7,7 @@ use Rattle.transfer_table.specs.Table.{TableState, admit_of, first_state, row, b
 use Rattle.transfer_table.specs.Journal.{replay_from, and_then}
 use Rattle.transfer_table.specs.Entry.{site_of, count_of, requested}
 use Rattle.transfer_table.specs.declared.entry.Row.{Row}
+use Rattle.transfer_table.specs.declared.entry.Stage.TheVariants.{New}
 use Rattle.transfer_table.specs.declared.entry.NotAdmitted.{NotAdmitted}
 use Rattle.transfer_table.specs.declared.entry.Entry.{Entry}
 use Rattle.transfer_table.proofs.Lists.{replicate_at}
@@ -18,7 +19,7 @@ use Rattle.open_table.specs.declared.table.Entry.{Entry as OpenEntry}
 use Rattle.open_table.specs.Table.{TableState as OpenState, first_state as open_start, after, Admits, Leads, Reaches}
 use Rattle.open_table.proofs.Entries.{reached_is_sound, top_home}
 use Rattle.table_laws.specs.Planned.{Numbering, no_sites, numbered, numbered_by, parents_in, parents_from, plan_of_run, transfers_in, transfers_from, planned}
-use Rattle.table_laws.specs.Agreement.{Agrees}
+use Rattle.table_laws.specs.Agreement.{Agrees, AreBegun}
 use Rattle.table_laws.specs.Laws.{PlansAreTrees, OpenRunsAreLegal}
 use Rattle.table_laws.proofs.Numbers.{AreLater, IsLater, all_later, numbers_after, reaches-snoc}
 use Rattle.table_laws.proofs.Transfers.{IsSized}
@@ -60,36 +61,36 @@ requested-append s xs ys = sum_by-append (λ e. if site_of e == s then count_of 
 
 module _ (z : Size) (p : Plan) (same : p.harts ≡ z.harts) where
   -- One entry.
-  by_act : (done : List OpenEntry) (t : OpenState) (n : Numbering) (u : TableState) → Reaches z done t → Agrees z t n p u → IsSized p u
+  by_act : (done : List OpenEntry) (t : OpenState) (n : Numbering) (u : TableState) → Reaches z done t → Agrees z t n p u → AreBegun n p u → IsSized p u
       → (h : ℕ) (a : Act) → Admits z t record { hart = h; act = a } → (qs : List ℕ) → IsAhead p n (parents_in (t.stacks h) a n ++ qs)
       → AreLater (after t record { hart = h; act = a }) (numbered a n) qs → Fits p u (transfers_in h a n)
       → Moved z p (after t record { hart = h; act = a }) (numbered a n) u (transfers_in h a n)
-  by_act done t n u reached A sized h (act.Register x) ok qs ahead later fits =
+  by_act done t n u reached A B sized h (act.Register x) ok qs ahead later fits =
       let size = ahead.size in
       let e : n.count + 1 - 1 ≡ n.count + 0 = omega arith in
-      register z p done t n u same reached A sized (omega arith) h x ok (omega arith) (ap (slice_index p.parents) e ∙ ahead.at 0)
-  by_act done t n u reached A sized h (act.Request x zero) ok qs ahead later fits =
-      let size = ahead.size in request_none z p done t n u same reached A sized (omega arith) h x ok
-  by_act done t n u reached A sized h (act.Request x (suc k)) ok qs ahead later fits =
+      register z p done t n u same reached A B sized (omega arith) h x ok (omega arith) (ap (slice_index p.parents) e ∙ ahead.at 0)
+  by_act done t n u reached A B sized h (act.Request x zero) ok qs ahead later fits =
+      let size = ahead.size in request_none z p done t n u same reached A B sized (omega arith) h x ok
+  by_act done t n u reached A B sized h (act.Request x (suc k)) ok qs ahead later fits =
       let size = ahead.size in
       let few : n.count ≤ site_count p = omega arith in
       let top = top_home z t (reached_is_sound z done t reached) h ok.0 x ok.1.0 ok.1.1 in
       let f = fits (n.number x) (in_plan z p t n u u A few x top.live) in
       let e : (if n.number x == n.number x then suc k else 0) ≡ suc k = ap (λ (b : Bool). if b then suc k else 0) (eq-eqb (n.number x) (n.number x) refl) in
-      request_some z p done t n u same reached A sized few h x k ok (omega arith)
-  by_act done t n u reached A sized h (act.Withdraw x k) ok qs ahead later fits =
-      let size = ahead.size in withdraw z p done t n u same reached A sized (omega arith) h x k ok
-  by_act done t n u reached A sized h (act.Enter x) ok qs ahead later fits =
-      let size = ahead.size in enter z p done t n u same reached A sized (omega arith) h x ok
-  by_act done t n u reached A sized h (act.Yield x) ok qs ahead later fits =
-      let size = ahead.size in yield z p done t n u same reached A sized (omega arith) h x ok
-  by_act done t n u reached A sized h (act.Close x) ok qs ahead later fits =
-      let size = ahead.size in close z p done t n u same reached A sized (omega arith) h x ok
-  by_act done t n u reached A sized h (act.SeeEmpty x) ok qs ahead later fits =
-      let size = ahead.size in see_empty z p done t n u same reached A sized (omega arith) h x ok
-  by_act done t n u reached A sized h (act.Unregister x) ok qs ahead later fits =
+      request_some z p done t n u same reached A B sized few h x k ok (omega arith)
+  by_act done t n u reached A B sized h (act.Withdraw x k) ok qs ahead later fits =
+      let size = ahead.size in withdraw z p done t n u same reached A B sized (omega arith) h x k ok
+  by_act done t n u reached A B sized h (act.Enter x) ok qs ahead later fits =
+      let size = ahead.size in enter z p done t n u same reached A B sized (omega arith) h x ok
+  by_act done t n u reached A B sized h (act.Yield x) ok qs ahead later fits =
+      let size = ahead.size in yield z p done t n u same reached A B sized (omega arith) h x ok
+  by_act done t n u reached A B sized h (act.Close x) ok qs ahead later fits =
+      let size = ahead.size in close z p done t n u same reached A B sized (omega arith) h x ok
+  by_act done t n u reached A B sized h (act.SeeEmpty x) ok qs ahead later fits =
+      let size = ahead.size in see_empty z p done t n u same reached A B sized (omega arith) h x ok
+  by_act done t n u reached A B sized h (act.Unregister x) ok qs ahead later fits =
       let size = ahead.size in
-      unregister z p done t n u same reached A sized (omega arith) h x ok (parent_ahead p n (after t record { hart = h; act = act.Unregister x }) qs ahead later)
+      unregister z p done t n u same reached A B sized (omega arith) h x ok (parent_ahead p n (after t record { hart = h; act = act.Unregister x }) qs ahead later)
 
   -- Two lists of transfers in turn.
   replays : (xs ys : List Entry) (u v w : TableState) → replay_from p u xs ≡ Ok v → replay_from p v ys ≡ Ok w → replay_from p u (xs ++ ys) ≡ Ok w
@@ -107,39 +108,49 @@ module _ (z : Size) (p : Plan) (same : p.harts ≡ z.harts) where
     leads = replays xs ys u M.to N.to M.leads N.leads;
     sized = N.sized;
     agrees = N.agrees;
+    begun = N.begun;
     asked = λ s site. let a = M.asked s site in let b = N.asked s site in let e = requested-append s xs ys in omega arith;
   }
 
-  run : (es done : List OpenEntry) (t w : OpenState) (n : Numbering) (u : TableState) → Reaches z done t → Leads z t es w → Agrees z t n p u → IsSized p u
+  run : (es done : List OpenEntry) (t w : OpenState) (n : Numbering) (u : TableState) → Reaches z done t → Leads z t es w → Agrees z t n p u → AreBegun n p u → IsSized p u
       → IsAhead p n (parents_from t n es) → Fits p u (transfers_from n es) → Moved z p w (numbered_by n es) u (transfers_from n es)
-  run [] done t w n u reached l A sized ahead fits = record {
+  run [] done t w n u reached l A B sized ahead fits = record {
     to = u;
     leads = refl;
     sized = sized;
     agrees = subst (λ (q : OpenState). Agrees z q n p u) l A;
+    begun = B;
     asked = λ s site. omega arith;
   }
-  run (e ∷ es) done t w n u reached l A sized ahead fits =
+  run (e ∷ es) done t w n u reached l A B sized ahead fits =
       let reached' = reaches-snoc z done e t reached l.0 in
       let qs : List ℕ = parents_from (after t e) (numbered e.act n) es in
       let numbers = numbers_after z t n (reached_is_sound z done t reached) e.hart e.act l.0 A.numbers in
       let first = transfers_in e.hart e.act n in
       let rest = transfers_from (numbered e.act n) es in
-      let M = by_act done t n u reached A sized e.hart e.act l.0 qs ahead (all_later z es (done ++ e ∷ []) (after t e) w (numbered e.act n) reached' l.1 numbers)
+      let M = by_act done t n u reached A B sized e.hart e.act l.0 qs ahead (all_later z es (done ++ e ∷ []) (after t e) w (numbered e.act n) reached' l.1 numbers)
       (λ s site. let f = fits s site in let b = requested-append s first rest in omega arith) in
       in_turn (after t e) w (numbered e.act n) (numbered_by (numbered e.act n) es) u first rest M
-      (run es (done ++ e ∷ []) (after t e) w (numbered e.act n) M.to reached' l.1 M.agrees M.sized (ahead_after p n (t.stacks e.hart) e.act qs ahead)
+      (run es (done ++ e ∷ []) (after t e) w (numbered e.act n) M.to reached' l.1 M.agrees M.begun M.sized (ahead_after p n (t.stacks e.hart) e.act qs ahead)
       (λ s site. let f = fits s site in let b = requested-append s first rest in let a = M.asked s site in omega arith))
 
 -- ---- from the start
+
+new_first : (p : Plan) (s : ℕ) → (row (first_state p) s).stage ≡ New
+new_first p s = ap (λ (r : Row). r.stage) (replicate_at (site_count p) (s - 1) blank)
 
 agrees_first : (z : Size) (p : Plan) → Agrees z open_start no_sites p (first_state p)
 agrees_first z p = record {
   numbers = record { base = refl; known = λ x l. absurd (cc); apart = λ x y a b e. absurd (cc) };
   owners = λ h lt. replicate_at p.harts h 0;
   live = λ x l. absurd (cc);
-  others = λ s site le. let low = site.0 in absurd (omega arith);
-  new = λ s site lt. ap (λ (r : Row). r.stage) (replicate_at (site_count p) (s - 1) blank);
+  others = λ s site is. let e : (row (first_state p) s).stage ≡ New = new_first p s in absurd (cc);
+}
+
+begun_first : (p : Plan) → AreBegun no_sites p (first_state p)
+begun_first p = record {
+  begun = λ s site le e. let low = site.0 in absurd (omega arith);
+  new = λ s site lt. new_first p s;
 }
 
 sized_first : (p : Plan) → IsSized p (first_state p)
@@ -155,11 +166,11 @@ whole : (z : Size) (es : List OpenEntry) (t : OpenState) → Reaches z es t → 
     → Moved z (plan_of_run z es) t (numbered_by no_sites es) (first_state (plan_of_run z es)) (planned es)
 whole z es t reached few =
     let p = plan_of_run z es in
-    run z p refl es [] open_start t no_sites (first_state p) refl reached (agrees_first z p) (sized_first p) (ahead_first z es)
+    run z p refl es [] open_start t no_sites (first_state p) refl reached (agrees_first z p) (begun_first p) (sized_first p) (ahead_first z es)
     (λ s site. let f = few s site in let e : (row (first_state p) s).asked ≡ 0 = ap (λ (r : Row). r.asked) (replicate_at (site_count p) (s - 1) blank) in omega arith)
 
 pub open_runs_are_legal : OpenRunsAreLegal
-open_runs_are_legal z es t reached few = let M = whole z es t reached few in (M.to, M.leads, M.agrees)
+open_runs_are_legal z es t reached few = let M = whole z es t reached few in (M.to, M.leads, M.agrees, M.begun)
 
 pub plans_are_trees : PlansAreTrees
 plans_are_trees z es t reached s site =

@@ -8,7 +8,8 @@ use Rattle.transfer_table.specs.Journal.{replay_from}
 use Rattle.transfer_table.specs.Entry.{requested}
 use Rattle.transfer_table.specs.Allowed.{IsAlone, ChildrenGone}
 use Rattle.transfer_table.specs.declared.entry.Row.{Row}
-use Rattle.transfer_table.specs.declared.entry.Stage.TheVariants.{Gone}
+use Rattle.transfer_table.specs.declared.entry.Stage.{Stage}
+use Rattle.transfer_table.specs.declared.entry.Stage.TheVariants.{New, Live, Gone}
 use Rattle.transfer_table.specs.declared.entry.Entry.{Entry}
 use Rattle.transfer_table.specs.declared.entry.Entry.TheVariants.{Register, Request, Enter, Yield, Unregister}
 use Rattle.transfer_table.proofs.Admits.{admits_register, admits_request, admits_enter, admits_yield}
@@ -26,10 +27,10 @@ use Rattle.open_table.proofs.Steps.{live_slot}
 use Rattle.open_table.proofs.Entries.{guest_at, top_home, top_guest, reached_is_sound}
 use Rattle.open_table.proofs.Ways.{owners_are_places, once_on_a_stack, leaves_an_empty_site}
 use Rattle.table_laws.specs.Planned.{Numbering, numbered}
-use Rattle.table_laws.specs.Agreement.{Agrees}
-use Rattle.table_laws.proofs.Numbers.{IsLater, was_live, fresh_site}
+use Rattle.table_laws.specs.Agreement.{Agrees, AreBegun}
+use Rattle.table_laws.proofs.Numbers.{IsLater, was_live, fresh_site, next_free_number}
 use Rattle.table_laws.proofs.Transfers.{IsSized, Changes, no_change, register_changes, request_changes, enter_changes, yield_changes, unregister_changes, admits_unregister, replay_one}
-use Rattle.table_laws.proofs.Keeps.{in_plan, stays, ends, registers}
+use Rattle.table_laws.proofs.Keeps.{in_plan, stays, ends, registers, begun_kept, begun_next}
 
 -- The transfers lead from state u to a state that agrees with t, and in which no site has asked for more than before and in the
 -- transfers.
@@ -38,6 +39,7 @@ pub record Moved (z : Size) (p : Plan) (t : OpenState) (n : Numbering) (u : Tabl
   pub leads : replay_from p u es ≡ Ok to
   pub sized : IsSized p to
   pub agrees : Agrees z t n p to
+  pub begun : AreBegun n p to
   pub asked : (s : ℕ) → IsSite p s → (row to s).asked ≤ (row u s).asked + requested s es
 
 top_stays : (f : Mark → Mark) (s : List Post) → top_site (on_top f s) ≡ top_site s
@@ -65,7 +67,7 @@ asked_after p u v h o x r C es le s site = dite (ℕ_discrete s x)
     (λ ne. let z : (row v s).asked ≡ (row u s).asked = ap (λ (q : Row). q.asked) (C.there s site ne) in omega arith)
 
 module _ (z : Size) (p : Plan) (done : List OpenEntry) (t : OpenState) (n : Numbering) (u : TableState) (same : p.harts ≡ z.harts)
-    (reached : Reaches z done t) (A : Agrees z t n p u) (sized : IsSized p u) (few : n.count ≤ site_count p) (h : ℕ) where
+    (reached : Reaches z done t) (A : Agrees z t n p u) (B : AreBegun n p u) (sized : IsSized p u) (few : n.count ≤ site_count p) (h : ℕ) where
   S : Sound z t
   S = reached_is_sound z done t reached
 
@@ -85,6 +87,7 @@ module _ (z : Size) (p : Plan) (done : List OpenEntry) (t : OpenState) (n : Numb
           leads = refl;
           sized = sized;
           agrees = stays z p t n u u A few h x (owner u h) s' r' (row u (n.number x)) C (A.owners h hart ∙ ap n.number (sym top)) was live home up (A.live x was).live refl wishes;
+          begun = B;
           asked = asked_after p u u h (owner u h) (n.number x) (row u (n.number x)) C [] (omega arith);
         }
 
@@ -96,9 +99,10 @@ module _ (z : Size) (p : Plan) (done : List OpenEntry) (t : OpenState) (n : Numb
       let site : IsSite p s = (omega arith, room) in
       let C = register_changes p u sized h s (in_harts hart) site in record {
         to = effect_of p u (Register h s);
-        leads = replay_one p u _ (Register h s) (admits_register p u h s (in_harts hart) site (A.owners h hart ∙ sym up) (A.new s site (omega arith)));
+        leads = replay_one p u _ (Register h s) (admits_register p u h s (in_harts hart) site (A.owners h hart ∙ sym up) (B.new s site (omega arith)));
         sized = C.sized;
-        agrees = registers z p t n u _ A few h x _ f.0 f.1 hart C places.0 places.1 refl refl up;
+        agrees = registers z p t n u _ A few h x s s _ f.0 f.1 hart C site (omega arith) (omega arith) (next_free_number t n A.numbers) places.0 places.1 refl refl up;
+        begun = begun_next p u _ n h s _ _ C (λ e. absurd (cc)) B;
         asked = asked_after p u _ h s s _ C (Register h s ∷ []) (omega arith);
       }
 
@@ -118,6 +122,7 @@ module _ (z : Size) (p : Plan) (done : List OpenEntry) (t : OpenState) (n : Numb
         leads = replay_one p u _ (Request h s (suc k)) (admits_request p u h s (suc k) (in_harts hart) site own (a.home ∙ ap (λ (g : ℕ). Some g) top.home) (omega arith) fits);
         sized = C.sized;
         agrees = stays z p t n u _ A few h x (owner u h) _ _ _ C (own ∙ (ap n.number may.1 ∙ ap n.number (sym (top_stays _ (t.stacks h))))) top.live top.live refl refl a.live refl (omega arith);
+        begun = begun_kept p u _ n h (owner u h) s _ C (A.numbers.known x top.live).1 (λ e. let l = a.live in absurd (cc)) B;
         asked = asked_after p u _ h (owner u h) s _ C (Request h s (suc k) ∷ [])
             (let e : (if s == s then suc k else 0) ≡ suc k = ap (λ (b : Bool). if b then suc k else 0) (eq-eqb s s refl) in omega arith);
       }
@@ -135,6 +140,7 @@ module _ (z : Size) (p : Plan) (done : List OpenEntry) (t : OpenState) (n : Numb
         leads = replay_one p u _ (Enter h s) (admits_enter p u h s (in_harts hart) site (A.owners h hart ∙ (ap n.number (sym may.2) ∙ sym a.parent)) a.live (omega arith));
         sized = C.sized;
         agrees = stays z p t n u _ A few h x s _ _ _ C refl may.0 may.0 refl refl a.live refl (omega arith);
+        begun = begun_kept p u _ n h s s _ C (A.numbers.known x may.0).1 (λ e. let l = a.live in absurd (cc)) B;
         asked = asked_after p u _ h s s _ C (Enter h s ∷ []) (omega arith);
       }
 
@@ -160,6 +166,7 @@ module _ (z : Size) (p : Plan) (done : List OpenEntry) (t : OpenState) (n : Numb
         leads = replay_one p u _ (Yield h s) (admits_yield p u h s (in_harts hart) site (own_number hart x may.1) (λ e. not_home x hart may.0 may.1 top.live (let w : Some (t.rows x).home ≡ Some h = sym a.home ∙ e in cc)));
         sized = C.sized;
         agrees = stays z p t n u _ A few h x (parent p s) _ _ _ C (a.parent ∙ ap n.number top.parent) top.live top.live refl refl a.live refl a.wishes;
+        begun = begun_kept p u _ n h (parent p s) s _ C (A.numbers.known x top.live).1 (λ e. let l = a.live in absurd (cc)) B;
         asked = asked_after p u _ h (parent p s) s _ C (Yield h s ∷ []) (omega arith);
       }
 
@@ -207,13 +214,16 @@ module _ (z : Size) (p : Plan) (done : List OpenEntry) (t : OpenState) (n : Numb
 
     gone : ((c : ℕ) → IsSite p c → n.count < c → IsLater ended n (parent p c)) → ChildrenGone p u (n.number x)
     gone later c site up = dite (dec_le c n.count)
-        (λ le. ⊎_elim
-        (λ (g : (row u c).stage ≡ Gone). g)
-        (λ (l : (y : ℕ) × ((t.rows y).live ≡ true) × (n.number y ≡ c)).
-        absurd (left.1 l.0 l.1 (is_x (t.rows l.0).parent ((owners_are_places z done t reached).1 l.0 l.1)
-        (sym (A.live l.0 l.1).parent ∙ (ap (parent p) l.2 ∙ up)))))
-        (A.others c site le))
+        (λ le. by_stage (row u c).stage refl le)
         (λ nle. absurd (none_later (parent p c) (later c site (omega arith)) up))
+      where
+        by_stage : (g : Stage) → (row u c).stage ≡ g → c ≤ n.count → (row u c).stage ≡ Gone
+        by_stage New e le = absurd (B.begun c site le e)
+        by_stage Live e le =
+            let l = A.others c site e in
+            absurd (left.1 l.0 l.1 (is_x (t.rows l.0).parent ((owners_are_places z done t reached).1 l.0 l.1)
+            (sym (A.live l.0 l.1).parent ∙ (ap (parent p) l.2 ∙ up))))
+        by_stage Gone e le = e
 
     pub unregister : ((c : ℕ) → IsSite p c → n.count < c → IsLater ended n (parent p c)) → Moved z p ended n u (Unregister h (n.number x) ∷ [])
     unregister later =
@@ -224,5 +234,6 @@ module _ (z : Size) (p : Plan) (done : List OpenEntry) (t : OpenState) (n : Numb
           leads = replay_one p u _ (Unregister h s) (admits_unregister p u sized h s (in_harts hart) site (own_number hart x ok.1.1) (a.home ∙ ap (λ (g : ℕ). Some g) top.home) alone (gone later));
           sized = C.sized;
           agrees = ends z p t n u _ A few h x (parent p s) _ _ _ C (a.parent ∙ ap n.number top.parent) top.live refl refl;
+          begun = begun_kept p u _ n h (parent p s) s _ C (A.numbers.known x top.live).1 (λ e. absurd (cc)) B;
           asked = asked_after p u _ h (parent p s) s _ C (Unregister h s ∷ []) (omega arith);
         }

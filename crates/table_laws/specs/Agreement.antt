@@ -1,8 +1,8 @@
 -- When a state of the planned table and one of the open table are the same, but for the sites' numbers.
-use Rattle.std.specs.Prelude.{◌≡◌, ◌⊎◌, ℕ, ◌+◌, ◌<◌, ◌≤◌, true, Some}
+use Rattle.std.specs.Prelude.{◌≡◌, ◌≢◌, ℕ, ◌+◌, ◌<◌, ◌≤◌, true, Some}
 use Rattle.transfer_table.specs.Plan.{Plan, IsSite, parent}
 use Rattle.transfer_table.specs.Table.{TableState, owner, row}
-use Rattle.transfer_table.specs.declared.entry.Stage.TheVariants.{New, Live, Gone}
+use Rattle.transfer_table.specs.declared.entry.Stage.TheVariants.{New, Live}
 use Rattle.open_table.specs.declared.table.Size.{Size}
 use Rattle.open_table.specs.Table.{TableState as OpenState, Row as OpenRow, owner as top_site}
 use Rattle.table_laws.specs.Planned.{Numbering}
@@ -21,12 +21,14 @@ pub record IsAlike (p : Plan) (u : TableState) (n : Numbering) (r : OpenRow) (s 
   pub parent : parent p s ≡ n.number r.parent
   pub wishes : r.asked ≤ r.entered + (row u s).wishes
 
--- State u of the plan's table agrees with state t of the open table: each hart has the same owner, each live site is live in the
--- plan, each other site that the run has registered is gone, and each further site of the plan is new.
+-- State u of the plan's table agrees with state t of the open table: each hart has the same owner, and the same sites are live.
 pub record Agrees (z : Size) (t : OpenState) (n : Numbering) (p : Plan) (u : TableState) : Type 0 where
   pub numbers : HasNumbers t n
   pub owners : (h : ℕ) → h < z.harts → owner u h ≡ n.number (top_site (t.stacks h))
   pub live : (x : ℕ) → (t.rows x).live ≡ true → IsAlike p u n (t.rows x) (n.number x)
-  pub others : (s : ℕ) → IsSite p s → s ≤ n.count
-      → ((row u s).stage ≡ Gone) ⊎ ((x : ℕ) × ((t.rows x).live ≡ true) × (n.number x ≡ s))
+  pub others : (s : ℕ) → IsSite p s → (row u s).stage ≡ Live → (x : ℕ) × ((t.rows x).live ≡ true) × (n.number x ≡ s)
+
+-- The sites of the plan that aren't new are those that the run has registered so far.
+pub record AreBegun (n : Numbering) (p : Plan) (u : TableState) : Type 0 where
+  pub begun : (s : ℕ) → IsSite p s → s ≤ n.count → (row u s).stage ≢ New
   pub new : (s : ℕ) → IsSite p s → n.count < s → (row u s).stage ≡ New

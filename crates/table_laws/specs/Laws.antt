@@ -10,7 +10,7 @@ use Rattle.open_table.specs.declared.table.Size.{Size}
 use Rattle.open_table.specs.declared.table.Entry.{Entry as OpenEntry}
 use Rattle.open_table.specs.Table.{TableState as OpenState, Reaches}
 use Rattle.table_laws.specs.Planned.{plan_of_run, planned, numbered_by, no_sites}
-use Rattle.table_laws.specs.Agreement.{Agrees}
+use Rattle.table_laws.specs.Agreement.{Agrees, AreBegun}
 
 -- No site requests in its life more harts than there are others. The open table doesn't require this: it bounds the wishes and
 -- guests that a site has at one time. So this leaves out the open runs in which a site requests harts again after some have left,
@@ -30,6 +30,7 @@ OpenRunsAreLegal = (z : Size) (es : List OpenEntry) (t : OpenState) → Reaches 
     → AsksFewInAll (plan_of_run z es) (planned es)
     → (u : TableState) × journal.Reaches (plan_of_run z es) (planned es) u
     × Agrees z t (numbered_by no_sites es) (plan_of_run z es) u
+    × AreBegun (numbered_by no_sites es) (plan_of_run z es) u
 
 -- If the run has ended, with each hart at the base, they are complete: each site is registered and ends.
 abbrev pub EndedRunsAreComplete : Type 0
