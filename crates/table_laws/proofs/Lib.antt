@@ -1,8 +1,11 @@
 pub mod Numbers
+pub mod Stacks
 pub mod Transfers
 pub mod Keeps
 pub mod Steps
 pub mod Runs
 pub mod Ended
 pub mod Sharp
+pub mod Mirror
+pub mod Opening
 pub mod Worked

@@ -136,7 +136,7 @@ module _ (z : Size) (p : Plan) (same : p.harts ≡ z.harts) where
 
 -- ---- from the start
 
-new_first : (p : Plan) (s : ℕ) → (row (first_state p) s).stage ≡ New
+pub new_first : (p : Plan) (s : ℕ) → (row (first_state p) s).stage ≡ New
 new_first p s = ap (λ (r : Row). r.stage) (replicate_at (site_count p) (s - 1) blank)
 
 agrees_first : (z : Size) (p : Plan) → Agrees z open_start no_sites p (first_state p)

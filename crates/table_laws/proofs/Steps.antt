@@ -14,21 +14,19 @@ use Rattle.transfer_table.specs.declared.entry.Entry.{Entry}
 use Rattle.transfer_table.specs.declared.entry.Entry.TheVariants.{Register, Request, Enter, Yield, Unregister}
 use Rattle.transfer_table.proofs.Admits.{admits_register, admits_request, admits_enter, admits_yield}
 use Rattle.open_table.specs.declared.table.Size.{Size}
-use Rattle.open_table.specs.declared.table.Mark.{Mark}
 use Rattle.open_table.specs.declared.table.Post.{Post}
-use Rattle.open_table.specs.declared.table.Post.TheVariants.{Home, Guest}
 use Rattle.open_table.specs.declared.table.Act.TheVariants as act
 use Rattle.open_table.specs.declared.table.Entry.{Entry as OpenEntry}
-use Rattle.open_table.specs.Table.{TableState as OpenState, Row as OpenRow, owner as top_site, below, is_guest, top_mark, on_top, next_row, put, after, Admits, Reaches}
-use Rattle.open_table.specs.Sound.{IsHome, Has, Sound}
-use Rattle.open_table.specs.Laws.{IsPlace, sunk, up}
+use Rattle.open_table.specs.Table.{TableState as OpenState, Row as OpenRow, owner as top_site, below, top_mark, next_row, put, after, Admits, Reaches}
+use Rattle.open_table.specs.Sound.{IsHome, Sound}
+use Rattle.open_table.specs.Laws.{IsPlace, up}
 use Rattle.open_table.proofs.Sums.{put-here}
-use Rattle.open_table.proofs.Steps.{live_slot}
-use Rattle.open_table.proofs.Entries.{guest_at, top_home, top_guest, reached_is_sound}
-use Rattle.open_table.proofs.Ways.{owners_are_places, once_on_a_stack, leaves_an_empty_site}
+use Rattle.open_table.proofs.Entries.{top_home, top_guest, reached_is_sound}
+use Rattle.open_table.proofs.Ways.{owners_are_places, leaves_an_empty_site}
 use Rattle.table_laws.specs.Planned.{Numbering, numbered}
 use Rattle.table_laws.specs.Agreement.{Agrees, AreBegun}
 use Rattle.table_laws.proofs.Numbers.{IsLater, was_live, fresh_site, next_free_number}
+use Rattle.table_laws.proofs.Stacks.{top_stays, not_home}
 use Rattle.table_laws.proofs.Transfers.{IsSized, Changes, no_change, register_changes, request_changes, enter_changes, yield_changes, unregister_changes, admits_unregister, replay_one}
 use Rattle.table_laws.proofs.Keeps.{in_plan, stays, ends, registers, begun_kept, begun_next}
 
@@ -41,23 +39,6 @@ pub record Moved (z : Size) (p : Plan) (t : OpenState) (n : Numbering) (u : Tabl
   pub agrees : Agrees z t n p to
   pub begun : AreBegun n p to
   pub asked : (s : ℕ) → IsSite p s → (row to s).asked ≤ (row u s).asked + requested s es
-
-top_stays : (f : Mark → Mark) (s : List Post) → top_site (on_top f s) ≡ top_site s
-top_stays f [] = refl
-top_stays f (Home x m ∷ rest) = refl
-top_stays f (Guest x ∷ rest) = refl
-
--- A site of which the hart is the home is at some depth of the hart's stack.
-has_depth : (x : ℕ) (s : List Post) → Has x s → (m : ℕ) × (top_site (sunk m s) ≡ x)
-has_depth x [] has = absurd has
-has_depth x (Home y m ∷ rest) has = ⊎_elim
-    (λ (e : y ≡ x). (0, e))
-    (λ (b : Has x rest). let r = has_depth x rest b in (suc r.0, r.1))
-    has
-has_depth x (Guest y ∷ rest) has = ⊎_elim
-    (λ (e : ⊥). absurd e)
-    (λ (b : Has x rest). let r = has_depth x rest b in (suc r.0, r.1))
-    has
 
 asked_after : (p : Plan) (u v : TableState) (h o x : ℕ) (r : Row) → Changes p u v h o x r → (es : List Entry) → r.asked ≤ (row u x).asked + requested x es
     → (s : ℕ) → IsSite p s → (row v s).asked ≤ (row u s).asked + requested s es
@@ -144,18 +125,6 @@ module _ (z : Size) (p : Plan) (done : List OpenEntry) (t : OpenState) (n : Numb
         asked = asked_after p u _ h s s _ C (Enter h s ∷ []) (omega arith);
       }
 
-  -- The home of a site isn't a guest of it.
-  not_home : (x : ℕ) → h < z.harts → is_guest (t.stacks h) ≡ true → x ≡ top_site (t.stacks h) → (t.rows x).live ≡ true → (t.rows x).home ≢ h
-  not_home x hart guest is live e =
-      let stack = guest_at (t.stacks h) x guest is in
-      let has : Has x (t.stacks h) = subst (λ (g : ℕ). Has x (t.stacks g)) e (S.at_home x live).1 in
-      let under : Has x (below (t.stacks h)) = ⊎_elim (λ (b : ⊥). absurd b) (λ (b : Has x (below (t.stacks h))). b) (let w : Has x (Guest x ∷ below (t.stacks h)) = subst (Has x) stack has in w) in
-      let d = has_depth x (below (t.stacks h)) under in
-      let deep : top_site (sunk (suc d.0) (t.stacks h)) ≡ x = ap (λ (q : List Post). top_site (sunk (suc d.0) q)) stack ∙ d.1 in
-      let low = (live_slot z t S x live).0 in
-      let once = once_on_a_stack z done t reached h 0 (suc d.0) hart (sym is ∙ sym deep) (λ b. absurd (omega arith)) in
-      absurd (omega arith)
-
   pub yield : (x : ℕ) → Admits z t record { hart = h; act = act.Yield x } → Moved z p (after t record { hart = h; act = act.Yield x }) n u (Yield h (n.number x) ∷ [])
   yield x ok =
       let hart = ok.0 in let may = ok.1 in let top = top_guest z t S h hart x may.0 may.1 in
@@ -163,7 +132,7 @@ module _ (z : Size) (p : Plan) (done : List OpenEntry) (t : OpenState) (n : Numb
       let s : ℕ = n.number x in let site = in_plan z p t n u u A few x top.live in
       let C = yield_changes p u sized h s (in_harts hart) site in record {
         to = effect_of p u (Yield h s);
-        leads = replay_one p u _ (Yield h s) (admits_yield p u h s (in_harts hart) site (own_number hart x may.1) (λ e. not_home x hart may.0 may.1 top.live (let w : Some (t.rows x).home ≡ Some h = sym a.home ∙ e in cc)));
+        leads = replay_one p u _ (Yield h s) (admits_yield p u h s (in_harts hart) site (own_number hart x may.1) (λ e. not_home z done t reached h x hart may.0 may.1 top.live (let w : Some (t.rows x).home ≡ Some h = sym a.home ∙ e in cc)));
         sized = C.sized;
         agrees = stays z p t n u _ A few h x (parent p s) _ _ _ C (a.parent ∙ ap n.number top.parent) top.live top.live refl refl a.live refl a.wishes;
         begun = begun_kept p u _ n h (parent p s) s _ C (A.numbers.known x top.live).1 (λ e. let l = a.live in absurd (cc)) B;

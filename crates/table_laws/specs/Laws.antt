@@ -1,7 +1,8 @@
 -- The laws between the tables: what the open table allows is what the planned table allows.
-use Rattle.std.specs.Prelude.{◌≡◌, ℕ, ◌-◌, ◌<◌, ◌≤◌, List, []}
+use Rattle.std.specs.Prelude.{◌≡◌, ℕ, ◌-◌, ◌<◌, ◌≤◌, false, List, []}
+use Rattle.std.specs.List.{All}
 use Rattle.transfer_table.specs.Plan.{Plan, IsPlan, IsSite, parent}
-use Rattle.transfer_table.specs.Entry.{requested}
+use Rattle.transfer_table.specs.Entry.{requested, is_skip}
 use Rattle.transfer_table.specs.Journal.{IsLegal, IsComplete, all_meant}
 use Rattle.transfer_table.specs.Table.{TableState}
 use Rattle.transfer_table.specs.Journal as journal
@@ -10,6 +11,7 @@ use Rattle.open_table.specs.declared.table.Size.{Size}
 use Rattle.open_table.specs.declared.table.Entry.{Entry as OpenEntry}
 use Rattle.open_table.specs.Table.{TableState as OpenState, Reaches}
 use Rattle.table_laws.specs.Planned.{plan_of_run, planned, numbered_by, no_sites}
+use Rattle.table_laws.specs.InOrder.{in_order}
 use Rattle.table_laws.specs.Agreement.{Agrees, AreBegun}
 
 -- No site requests in its life more harts than there are others. The open table doesn't require this: it bounds the wishes and
@@ -44,3 +46,11 @@ abbrev pub LegalRunsAskFew : Type 0
 LegalRunsAskFew = (z : Size) (es : List OpenEntry) → IsPlan (plan_of_run z es)
     → IsLegal (plan_of_run z es) (planned es)
     → AsksFewInAll (plan_of_run z es) (planned es)
+
+-- The open table allows no fewer runs: each legal run without a Skip is the planned run of an open run with enough levels, but for
+-- the numbers of its sites. The open table has no Skip, since it has no site that a run could leave out.
+abbrev pub PlannedRunsAreOpen : Type 0
+PlannedRunsAreOpen = (p : Plan) (es : List Entry) → IsPlan p → IsLegal p es → All (λ e. is_skip e ≡ false) es
+    → (levels : ℕ) × (open_run : List OpenEntry) × (t : OpenState)
+    × Reaches record { harts = p.harts; levels = levels } open_run t
+    × (planned open_run ≡ in_order es)

@@ -1,4 +1,5 @@
 pub mod Planned
+pub mod InOrder
 pub mod Agreement
 pub mod Laws
 pub mod Example

@@ -8,7 +8,7 @@
 //! `specs/Planned.antt`; `specs/Example.antt` has a run of two harts.
 #![tactic(auto)]
 
-ghost use Rattle.table_laws.specs.Laws.{PlansAreTrees, OpenRunsAreLegal, EndedRunsAreComplete, LegalRunsAskFew};
+ghost use Rattle.table_laws.specs.Laws.{PlansAreTrees, OpenRunsAreLegal, EndedRunsAreComplete, LegalRunsAskFew, PlannedRunsAreOpen};
 ghost use Rattle.table_laws.specs.Example.{IsWorkedExample};
 
 /// In the plan of an open run each parent has a smaller number than its site.
@@ -30,6 +30,11 @@ pub fn ended_runs_are_complete()
 /// They are legal only if no site requests more harts in its life than there are others.
 pub fn legal_runs_ask_few()
     ensures { LegalRunsAskFew }
+{}
+
+/// Each legal run without a Skip is the planned run of an open run, but for the numbers of its sites.
+pub fn planned_runs_are_open()
+    ensures { PlannedRunsAreOpen }
 {}
 
 /// A run of two harts that the open table allows, its plan and its transfers there.
