@@ -47,7 +47,7 @@ LegalRunsAskFew = (z : Size) (es : List OpenEntry) → IsPlan (plan_of_run z es)
     → IsLegal (plan_of_run z es) (planned es)
     → AsksFewInAll (plan_of_run z es) (planned es)
 
--- The open table allows no fewer runs: each legal run without a Skip is the planned run of an open run with enough levels, but for
+-- The open table allows as many runs: each legal run without a Skip is the planned run of an open run with enough levels, but for
 -- the numbers of its sites. The open table has no Skip, since it has no site that a run could leave out.
 abbrev pub PlannedRunsAreOpen : Type 0
 PlannedRunsAreOpen = (p : Plan) (es : List Entry) → IsPlan p → IsLegal p es → All (λ e. is_skip e ≡ false) es

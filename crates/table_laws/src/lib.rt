@@ -2,7 +2,8 @@
 //! table (`open_table`), whose sites come and go.
 //!
 //! An open run makes a plan as it goes: each Register adds a site, with a fresh number, below the hart's owner. The run's transfers
-//! are legal for this plan, and complete if the run has ended. So what the planned table allows is one definition for both tables.
+//! are legal for this plan, and complete if the run has ended. The premise is that no site requests in its life more harts than
+//! there are others. Conversely each legal run without a Skip is the planned run of an open run.
 //!
 //! The crate holds definitions and laws. No code here runs: each function's contract is a law, and its body is empty. Begin with
 //! `specs/Planned.antt`; `specs/Example.antt` has a run of two harts.
