@@ -16,9 +16,10 @@ use Rattle.open_table.specs.declared.table.Entry.{Entry as OpenEntry}
 use Rattle.open_table.specs.Table.{TableState as OpenState, first_state as open_start, after, Leads, Reaches}
 use Rattle.table_laws.specs.Planned.{Numbering, no_sites, numbered, numbered_by, transfers_in, transfers_from}
 use Rattle.table_laws.specs.InOrder.{counted, renumbered, in_order_from}
+use Rattle.table_laws.specs.Agreement.{Agrees, AgreesIn}
 use Rattle.table_laws.specs.Laws.{PlannedRunsAreOpen}
 use Rattle.table_laws.proofs.Runs.{new_first}
-use Rattle.table_laws.proofs.Mirror.{Mirrors, Opened, opened}
+use Rattle.table_laws.proofs.Mirror.{by_plan, Mirrors, Opened, opened}
 
 leads-append : (z : Size) (xs ys : List OpenEntry) (t u w : OpenState) → Leads z t xs u → Leads z u ys w → Leads z t (xs ++ ys) w
 leads-append z [] ys t u w a b = subst (λ (q : OpenState). Leads z q ys w) (sym a) b
@@ -45,14 +46,15 @@ first_admitted p u w e es is = by_result (admit_of p u e) refl is
     by_result (Ok v) same left = (v, same, left)
     by_result (Err f) same left = absurd (cc)
 
--- Entries of the open table that have these transfers.
-abbrev HasEntries : Size → OpenState → Numbering → Numbering → List Entry → Type 0
-HasEntries z t n m es = (entries : List OpenEntry) × (to : OpenState) × Leads z t entries to × (transfers_from n entries ≡ in_order_from m es)
+-- Entries of the open table that have these transfers, and lead to a state that agrees with w.
+abbrev HasEntries : Size → Plan → OpenState → Numbering → Numbering → List Entry → TableState → Type 0
+HasEntries z p t n m es w = (entries : List OpenEntry) × (to : OpenState) × Leads z t entries to × (transfers_from n entries ≡ in_order_from m es) × AgreesIn z to p w
 
 module _ (z : Size) (p : Plan) (plan : IsPlan p) (same : p.harts ≡ z.harts) where
   opens : (es : List Entry) (done : List OpenEntry) (t : OpenState) (f : ℕ → ℕ) (n m : Numbering) (u w : TableState) → Reaches z done t
-      → Mirrors z p t f n m u (length es) → replay_from p u es ≡ Ok w → All (λ e. is_skip e ≡ false) es → HasEntries z t n m es
-  opens [] done t f n m u w reached M legal other = ([], t, refl, refl)
+      → Mirrors z p t f n m u (length es) → replay_from p u es ≡ Ok w → All (λ e. is_skip e ≡ false) es → HasEntries z p t n m es w
+  opens [] done t f n m u w reached M legal other =
+      let same' : u ≡ w = cc in ([], t, refl, refl, (f, subst (Agrees z t (by_plan p f) p) same' M.agrees))
   opens (e ∷ es) done t f n m u w reached M legal other =
       let first = first_admitted p u w e es legal in
       let a = admitted p u e first.0 record { plan = plan; owners = M.sized.owners; rows = M.sized.rows } first.1 in
@@ -64,6 +66,7 @@ module _ (z : Size) (p : Plan) (plan : IsPlan p) (same : p.harts ≡ z.harts) wh
         R.1,
         leads-append z O.entries R.0 t O.to R.1 O.leads R.2,
         in_turn n O.entries R.0 (renumbered e m) (in_order_from (counted e m) es) O.planned R.3,
+        R.4,
       )
 
 -- At the start no site is live.
@@ -83,7 +86,7 @@ mirrors_first p room = record {
 }
 
 pub planned_runs_are_open : PlannedRunsAreOpen
-planned_runs_are_open p es plan legal other =
-    let levels : ℕ = length es in
-    let r = opens record { harts = p.harts; levels = levels } p plan refl es [] open_start (λ x. 0) no_sites no_sites (first_state p) legal.0 refl (mirrors_first p levels) legal.1 other in
-    (levels, r.0, r.1, r.2, r.3)
+planned_runs_are_open p es u plan legal other =
+    let z : Size = record { harts = p.harts; levels = length es } in
+    let r = opens z p plan refl es [] open_start (λ x. 0) no_sites no_sites (first_state p) u refl (mirrors_first p (length es)) legal other in
+    (z, r.0, r.1, refl, r.2, r.3, r.4)

@@ -1,6 +1,6 @@
 -- When a state of the planned table and one of the open table are the same, but for the sites' numbers.
 use Rattle.std.specs.Prelude.{◌≡◌, ◌≢◌, ℕ, ◌+◌, ◌<◌, ◌≤◌, true, Some}
-use Rattle.transfer_table.specs.Plan.{Plan, IsSite, parent}
+use Rattle.transfer_table.specs.Plan.{Plan, IsSite, parent, site_count}
 use Rattle.transfer_table.specs.Table.{TableState, owner, row}
 use Rattle.transfer_table.specs.declared.entry.Stage.TheVariants.{New, Live}
 use Rattle.open_table.specs.declared.table.Size.{Size}
@@ -32,3 +32,7 @@ pub record Agrees (z : Size) (t : OpenState) (n : Numbering) (p : Plan) (u : Tab
 pub record AreBegun (n : Numbering) (p : Plan) (u : TableState) : Type 0 where
   pub begun : (s : ℕ) → IsSite p s → s ≤ n.count → (row u s).stage ≢ New
   pub new : (s : ℕ) → IsSite p s → n.count < s → (row u s).stage ≡ New
+
+-- The states agree if each live site of the open table is some site of the plan.
+abbrev pub AgreesIn : Size → OpenState → Plan → TableState → Type 0
+AgreesIn z t p u = (site : ℕ → ℕ) × Agrees z t record { count = site_count p; number = site } p u

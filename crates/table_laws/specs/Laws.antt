@@ -12,7 +12,7 @@ use Rattle.open_table.specs.declared.table.Entry.{Entry as OpenEntry}
 use Rattle.open_table.specs.Table.{TableState as OpenState, Reaches}
 use Rattle.table_laws.specs.Planned.{plan_of_run, planned, numbered_by, no_sites}
 use Rattle.table_laws.specs.InOrder.{in_order}
-use Rattle.table_laws.specs.Agreement.{Agrees, AreBegun}
+use Rattle.table_laws.specs.Agreement.{Agrees, AreBegun, AgreesIn}
 
 -- No site requests in its life more harts than there are others. The open table doesn't require this: it bounds the wishes and
 -- guests that a site has at one time. So this leaves out the open runs in which a site requests harts again after some have left,
@@ -48,9 +48,11 @@ LegalRunsAskFew = (z : Size) (es : List OpenEntry) → IsPlan (plan_of_run z es)
     → AsksFewInAll (plan_of_run z es) (planned es)
 
 -- The open table allows as many runs: each legal run without a Skip is the planned run of an open run with enough levels, but for
--- the numbers of its sites. The open table has no Skip, since it has no site that a run could leave out.
+-- the numbers of its sites. The two runs lead to states that agree, so the open run has ended if each hart is at the base after the
+-- planned run. The open table has no Skip, since it has no site that a run could leave out.
 abbrev pub PlannedRunsAreOpen : Type 0
-PlannedRunsAreOpen = (p : Plan) (es : List Entry) → IsPlan p → IsLegal p es → All (λ e. is_skip e ≡ false) es
-    → (levels : ℕ) × (open_run : List OpenEntry) × (t : OpenState)
-    × Reaches record { harts = p.harts; levels = levels } open_run t
+PlannedRunsAreOpen = (p : Plan) (es : List Entry) (u : TableState) → IsPlan p → journal.Reaches p es u
+    → All (λ e. is_skip e ≡ false) es
+    → (z : Size) × (open_run : List OpenEntry) × (t : OpenState) × (z.harts ≡ p.harts) × Reaches z open_run t
     × (planned open_run ≡ in_order es)
+    × AgreesIn z t p u
