@@ -8,11 +8,7 @@ use Rattle.table_laws.specs.Planned.{Numbering, no_sites}
 -- The numbering of the plan's sites after a transfer: a Register gives its site the next number.
 abbrev pub counted : Entry → Numbering → Numbering
 counted (Register h s) n = record { count = n.count + 1; number = put s (n.count + 1) n.number }
-counted (Request h s k) n = n
-counted (Enter h s) n = n
-counted (Yield h s) n = n
-counted (Unregister h s) n = n
-counted (Skip h s) n = n
+counted _ n = n
 
 -- The transfer with its site's number.
 abbrev pub renumbered : Entry → Numbering → Entry

@@ -34,7 +34,7 @@ OpenRunsAreLegal = (z : Size) (es : List OpenEntry) (t : OpenState) → Reaches 
     × Agrees z t (numbered_by no_sites es) (plan_of_run z es) u
     × AreBegun (numbered_by no_sites es) (plan_of_run z es) u
 
--- If the run has ended, with each hart at the base, they are complete: each site is registered and ends.
+-- The transfers of an open run that has ended, with each hart at the base, are complete: each site is registered and ends.
 abbrev pub EndedRunsAreComplete : Type 0
 EndedRunsAreComplete = (z : Size) (es : List OpenEntry) (t : OpenState) → Reaches z es t
     → AsksFewInAll (plan_of_run z es) (planned es)

@@ -27,13 +27,7 @@ no_sites = record { count = 0; number = λ x. 0 }
 -- The numbering after an act: a Register gives its site the next number.
 abbrev pub numbered : Act → Numbering → Numbering
 numbered (act.Register x) n = record { count = n.count + 1; number = put x (n.count + 1) n.number }
-numbered (act.Request x k) n = n
-numbered (act.Withdraw x k) n = n
-numbered (act.Enter x) n = n
-numbered (act.Yield x) n = n
-numbered (act.Close x) n = n
-numbered (act.SeeEmpty x) n = n
-numbered (act.Unregister x) n = n
+numbered _ n = n
 
 -- The numbering after the entries.
 abbrev pub numbered_by : Numbering → List OpenEntry → Numbering
@@ -45,13 +39,7 @@ numbered_by n (e ∷ es) = numbered_by (numbered e.act n) es
 -- The parents that the act of a hart with this stack adds to the plan: a Register adds the number of the hart's owner.
 abbrev pub parents_in : List Post → Act → Numbering → List ℕ
 parents_in s (act.Register x) n = n.number (top_site s) ∷ []
-parents_in s (act.Request x k) n = []
-parents_in s (act.Withdraw x k) n = []
-parents_in s (act.Enter x) n = []
-parents_in s (act.Yield x) n = []
-parents_in s (act.Close x) n = []
-parents_in s (act.SeeEmpty x) n = []
-parents_in s (act.Unregister x) n = []
+parents_in s _ n = []
 
 -- The parents that the entries add from a state on.
 abbrev pub parents_from : OpenState → Numbering → List OpenEntry → List ℕ

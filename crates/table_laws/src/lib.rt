@@ -23,12 +23,12 @@ pub fn open_runs_are_legal()
     ensures { OpenRunsAreLegal }
 {}
 
-/// They are complete if the run has ended.
+/// The transfers of an open run that has ended are complete, if no site requests more harts in its life than there are others.
 pub fn ended_runs_are_complete()
     ensures { EndedRunsAreComplete }
 {}
 
-/// They are legal only if no site requests more harts in its life than there are others.
+/// The transfers of an open run are legal only if no site requests more harts in its life than there are others.
 pub fn legal_runs_ask_few()
     ensures { LegalRunsAskFew }
 {}
