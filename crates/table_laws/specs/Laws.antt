@@ -41,10 +41,9 @@ EndedRunsAreComplete = (z : Size) (es : List OpenEntry) (t : OpenState) → Reac
     → ((h : ℕ) → h < z.harts → t.stacks h ≡ [])
     → IsComplete (plan_of_run z es) (all_meant (plan_of_run z es)) (planned es)
 
--- The premise leaves out no more than it has to: a run's transfers are legal only if no site requests more in its life.
+-- The premise leaves out no more than it has to: the transfers of a run are legal only if no site requests more in its life.
 abbrev pub LegalRunsAskFew : Type 0
-LegalRunsAskFew = (z : Size) (es : List OpenEntry) → IsPlan (plan_of_run z es)
-    → IsLegal (plan_of_run z es) (planned es)
+LegalRunsAskFew = (z : Size) (es : List OpenEntry) → IsLegal (plan_of_run z es) (planned es)
     → AsksFewInAll (plan_of_run z es) (planned es)
 
 -- The open table allows as many runs: each legal run without a Skip is the planned run of an open run with enough levels, but for
