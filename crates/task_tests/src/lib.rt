@@ -22,6 +22,8 @@ mod letters;
 #[cfg(test)]
 mod loops;
 #[cfg(test)]
+mod pairs;
+#[cfg(test)]
 mod rows;
 #[cfg(test)]
 mod runs;
