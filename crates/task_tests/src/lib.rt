@@ -10,6 +10,8 @@ mod failing;
 #[cfg(test)]
 mod faults;
 #[cfg(test)]
+mod finds;
+#[cfg(test)]
 mod forks;
 #[cfg(test)]
 mod gates;

@@ -1,0 +1,27 @@
+//! The first element of a slice that passes a test, as a library of tasks.
+//!
+//! [`Find`] is a fold whose ranges fail by what they find. The error of a list of tasks is that of the first task that failed, so
+//! the error of the whole slice is its first index. The tasks behind a failed one that have not begun are dropped, so a search
+//! stops early on any number of harts.
+//!
+//! # Example
+//!
+//! From `task_tests/src/finds.rt`.
+//!
+//! ```text
+//! impl Predicate<u64> for Sevens {
+//!     ghost passes = { λ _ number. number % 7 == 0 };
+//!     fn passes(&self, element: &u64) -> bool {
+//!         *element % 7 == 0
+//!     }
+//! }
+//!
+//! let find = Find { elements: &numbers, predicate: &Sevens };
+//! // Inside a task of a kind `V` that holds ranges of the search:
+//! let index = find_first::<u64, Sevens, V, H>(alloc, harts, find, cuts, shortest)?;
+//! ```
+#![tactic(auto)]
+
+mod find;
+
+pub use find::{Find, Found, Predicate, find_first};
