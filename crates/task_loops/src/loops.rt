@@ -35,6 +35,10 @@ pub struct Mapped<'p, A, M> {
 }
 
 impl<'p, A, M: Copy> Clone for Mapped<'p, A, M> {
+    ghost is_clone = { λ mapped copy. (copy.elements ≡ mapped.elements) × M.is_clone mapped.map copy.map };
+
+    ghost is_infallible = { λ mapped. M.is_infallible mapped.map };
+
     fn clone(&self) -> Result<Self, AllocError> {
         let map = self.map.clone()?;
         Ok(Mapped {
