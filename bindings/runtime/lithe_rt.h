@@ -9,8 +9,8 @@
  * schedulers (SCHEDULER.md has one example from nothing to a test). README.md says what happens on errors, forks,
  * signals and threads that end.
  *
- * Each function that takes bodies runs all of them before it returns, in parallel where harts are free. None of them
- * fails: without memory, threads, harts or levels it runs the bodies in place, and counts that (lithe_count_of).
+ * Each function that takes bodies runs all of them before it returns, in parallel where harts are free; a spawned task has run
+ * when its group's wait returns. None of them fails: without memory, threads, harts or levels it runs the bodies in place, and counts that (lithe_count_of).
  */
 #ifndef LITHE_RT_H
 #define LITHE_RT_H
