@@ -144,6 +144,8 @@ impl<T: TaskKind> TaskTable<T> {
         ensures outcome { MatchOption result (seat.new.me.1 ≡ seat.old.me.1)
             (λ outcome. (task : T) → get_elem? self.now.table.shared.key.value.items place ≡ some task
             → Ends T.gives T.fails (T.Error.from_gives alloc_error) task outcome) }
+        ensures holds { MatchOption result (Unit {0})
+            (λ _. seat.new.me.1 ≡ (place, TaskSlot.Out) ∷ seat.old.me.1) }
         ensures absent { MatchOption result
             ((seat.new.me.0.place ≡ place) × (seat.new.me.0.found ≢ 2)) (λ _. Unit {0}) }
         ensures took { seat.new.me.0.took ≡ seat.old.me.0.took }
