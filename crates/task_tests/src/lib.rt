@@ -1,6 +1,7 @@
 //! Tests of tasks: on one hart and on several, inside other tasks, of each library, and of their traces.
 //!
-//! Why a crate of its own: a crate is proved a second time with its tests.
+//! Why a crate of its own: a crate is proved a second time with its tests. `pairs` and its gate are also compiled without tests,
+//! since `specs/Pairs.antt` names their types.
 #![tactic(auto)]
 
 #[cfg(test)]
@@ -13,7 +14,6 @@ mod faults;
 mod finds;
 #[cfg(test)]
 mod forks;
-#[cfg(test)]
 mod gates;
 #[cfg(test)]
 mod greatest;
@@ -23,7 +23,6 @@ mod lengths;
 mod letters;
 #[cfg(test)]
 mod loops;
-#[cfg(test)]
 mod pairs;
 #[cfg(test)]
 mod rows;
