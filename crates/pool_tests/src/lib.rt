@@ -6,6 +6,8 @@ mod batches;
 #[cfg(test)]
 mod hands;
 #[cfg(test)]
+mod moves;
+#[cfg(test)]
 mod pools;
 #[cfg(test)]
 mod rows;

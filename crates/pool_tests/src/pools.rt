@@ -1,45 +1,24 @@
-//! Pools.
+//! Pools of the two branches, which play scripts.
+use crate::moves::Got::*;
+use crate::moves::Move::*;
+use crate::moves::{Got, Move, Played, Wrong, calls_back, came, entered, first_wrong, was};
 use array_eval::Overlay;
-use array_jobs::{Job, copy_jobs};
+use array_jobs::copy_jobs;
 use array_tree::Program;
 use contexts::Paused;
 use forkjoin_sched::{Pool, PoolWork};
 use sample_programs::{
-    BOTH_BRANCHES, Came, TWO_BRANCHES, first_jobs, outcome_of, parsed, piece_at, waiting,
+    BOTH_BRANCHES, TWO_BRANCHES, first_jobs, outcome_of, parsed, piece_at, waiting,
 };
-use sched_api::{Call, Hearing, Next, Scheduler};
-use scheduler_samples::Answer;
+use sched_api::Scheduler;
 use std::alloc::Global;
 use std::test::Fail;
 use step_eval::StepMachine;
 
-/// The result of `enter` of a pool, with a piece's index.
-pub fn answer_of(next: Next<PoolWork>) -> Answer {
-    match next {
-        Next::Run(PoolWork::Begin(job)) => Answer::Begins(job.place),
-        Next::Run(PoolWork::Ready(_)) => Answer::GoesOn,
-        Next::Lend(site) => Answer::Lends(site),
-        Next::Nothing => Answer::Nothing,
-    }
-}
-
-/// What a hart finds.
-pub fn entered<'p, S: Scheduler<Ctx = PoolWork<'p>>>(scheduler: &mut S, hold: S::Hold) -> Answer {
-    answer_of(scheduler.enter(hold))
-}
-
-/// Whether a hart finds this, one after another.
-pub fn finds<'p, S: Scheduler<Ctx = PoolWork<'p>>>(
-    scheduler: &mut S,
-    hold: S::Hold,
-    answers: &[Answer],
-) -> bool {
-    for answer in answers {
-        if entered(scheduler, hold) != *answer {
-            return false;
-        }
-    }
-    true
+/// A pool of the two branches.
+pub fn pool_of<'p>(alloc: Global, program: &'p Program) -> Result<Pool<'p>, Fail> {
+    let jobs = first_jobs(alloc, program)?;
+    Ok(Pool::new(alloc, jobs)?)
 }
 
 /// Puts a context back. Returns whether there was room.
@@ -54,49 +33,43 @@ pub fn unblocked<'p, S: Scheduler<Ctx = PoolWork<'p>>>(
     }
 }
 
-// Puts three contexts back. Returns whether there was room for each.
-fn put_back<'p, S: Scheduler<Ctx = PoolWork<'p>>>(
-    scheduler: &mut S,
-    hold: S::Hold,
-    alloc: Global,
-    jobs: &[Job<'p>],
-) -> Result<[bool; 3], Fail> {
-    let first = unblocked(scheduler, hold, waiting(alloc, jobs)?);
-    let second = unblocked(scheduler, hold, waiting(alloc, jobs)?);
-    let third = unblocked(scheduler, hold, waiting(alloc, jobs)?);
-    Ok([first, second, third])
+// Puts a context back, with a machine for the pool's first job.
+fn put_back<'p>(pool: &mut Pool<'p>, alloc: Global) -> Result<Got, Fail> {
+    let context = waiting(alloc, pool.jobs())?;
+    Ok(was(unblocked(pool, (), context)))
 }
 
-/// Room for two contexts of three.
-pub const TWO_OF_THREE: &[bool] = &[true, true, false];
-
-/// Puts three contexts back. Whether there was room for these of them.
-pub fn has_room<'p, S: Scheduler<Ctx = PoolWork<'p>>>(
-    scheduler: &mut S,
-    hold: S::Hold,
-    alloc: Global,
-    jobs: &[Job<'p>],
-    expected: &[bool],
-) -> Result<bool, Fail> {
-    let rooms = put_back(scheduler, hold, alloc, jobs)?;
-    Ok(rooms.as_slice() == expected)
+// Whether a context is taken as ready.
+fn is_ready(pool: &mut Pool) -> bool {
+    matches!(pool.take_ready(), Some(PoolWork::Ready(_)))
 }
 
-/// A pool of the two branches.
-pub fn pool_of<'p>(alloc: Global, program: &'p Program) -> Result<Pool<'p>, Fail> {
-    let jobs = first_jobs(alloc, program)?;
-    Ok(Pool::new(alloc, jobs)?)
+// Takes the last job, if it has this index.
+fn last_taken(pool: &mut Pool, place: usize) -> Got {
+    match pool.take_last(place) {
+        Some(job) => Got::Begins(job.place),
+        None => Got::Nothing,
+    }
 }
 
-// Deposits the piece of one of the jobs.
-fn bring<'p>(
-    pool: &mut Pool<'p>,
-    alloc: Global,
-    jobs: &[Job<'p>],
-    place: usize,
-) -> Result<Came, Fail> {
-    let piece = piece_at(alloc, jobs, place)?;
-    Ok(outcome_of(pool.deposit(piece)))
+// Brings the piece of a job.
+fn brought<'p>(pool: &mut Pool<'p>, alloc: Global, place: usize) -> Result<Got, Fail> {
+    let piece = piece_at(alloc, pool.jobs(), place)?;
+    Ok(came(outcome_of(pool.deposit(piece))))
+}
+
+impl<'p> Played<()> for Pool<'p> {
+    fn does(&mut self, hold: (), alloc: Global, it: Move) -> Result<Got, Fail> {
+        match it {
+            Move::Enter => Ok(entered(self, hold)),
+            Move::PutBack => put_back(self, alloc),
+            Move::CountReady => Ok(Got::Count(self.ready_count())),
+            Move::TakeReady => Ok(was(is_ready(self))),
+            Move::TakeLast(place) => Ok(last_taken(self, place)),
+            Move::Bring(place) => brought(self, alloc, place),
+            _ => Ok(calls_back(self, hold, it)),
+        }
+    }
 }
 
 // The writes of a full pool. A failed pool, and one that isn't full, return none.
@@ -107,197 +80,121 @@ fn taken(pool: Pool) -> Option<Overlay> {
     pool.take_all().ok()
 }
 
-// Whether there is an overlay of the writes of both branches.
-fn is_of_both(overlay: Option<Overlay>) -> bool {
+// Whether there is an overlay, and if so, whether it has the writes of both branches.
+fn writes_in(overlay: Option<Overlay>) -> Got {
     match overlay {
-        Some(written) => written.pairs() == BOTH_BRANCHES.as_slice(),
-        None => false,
+        Some(written) if written.pairs() == BOTH_BRANCHES.as_slice() => Got::BothBranches,
+        Some(_) => Got::OtherWrites,
+        None => Got::Nothing,
     }
 }
 
-/// Whether a pool is full, hasn't failed, and returns the writes of both branches.
-pub fn gives_both(pool: Pool) -> bool {
+/// What a pool returns at its end.
+pub fn end_of(pool: Pool) -> Got {
     let failed = pool.has_failed();
-    let both = is_of_both(taken(pool));
-    both && !failed
-}
-
-/// Whether a pool has failed and returns no writes.
-pub fn gives_nothing(pool: Pool) -> bool {
-    let failed = pool.has_failed();
-    let nothing = taken(pool).is_none();
-    failed && nothing
-}
-
-// The checks of the tests.
-#[derive(Clone, Copy)]
-enum Look {
-    PiecesFirst,
-    ContextsFirst,
-    Last,
-}
-
-// Whether this holds of a pool, beside copies of its jobs.
-fn holds_of<'p>(
-    pool: &mut Pool<'p>,
-    alloc: Global,
-    jobs: &[Job<'p>],
-    look: Look,
-) -> Result<bool, Fail> {
-    match look {
-        Look::PiecesFirst => Ok(pieces_go_first(pool)),
-        Look::ContextsFirst => contexts_go_first(pool, alloc, jobs),
-        Look::Last => leaves_nothing(pool, alloc, jobs),
+    match (writes_in(taken(pool)), failed) {
+        (Got::Nothing, true) => Got::NoWrites,
+        (Got::BothBranches, true) => Got::OtherWrites,
+        (written, _) => written,
     }
 }
 
-// The same for a pool of the two branches.
-fn holds(alloc: Global, look: Look) -> Result<bool, Fail> {
+// The first wrong line of a script that a pool of the two branches plays.
+fn wrong(alloc: Global, script: &[(Move, Got)]) -> Result<Option<Wrong>, Fail> {
     let program = parsed(alloc, TWO_BRANCHES)?;
     let mut pool = pool_of(alloc, &program)?;
-    let copies = copy_jobs(alloc, pool.jobs())?;
-    holds_of(&mut pool, alloc, &copies, look)
+    first_wrong(&mut pool, (), alloc, script)
 }
 
-// What a hart finds: two pieces and a wish for two harts.
-const PIECES_THEN_WISHES: &[Answer] = &[
-    Answer::Begins(0),
-    Answer::Begins(1),
-    Answer::Lends(2),
-    Answer::Lends(2),
-    Answer::Nothing,
+const PIECES_THEN_WISHES: &[(Move, Got)] = &[
+    (Request(2, 2), Yes),
+    (Enter, Begins(0)),
+    (Enter, Begins(1)),
+    (Enter, Lends(2)),
+    (Enter, Lends(2)),
+    (Enter, Nothing),
 ];
-
-// Child 2 requests two harts. Returns whether the pool's receipt has that, and its pieces go before that wish.
-fn pieces_go_first(pool: &mut Pool) -> bool {
-    let told = pool.request((), 2, 2).told();
-    let receipts = told.call == Call::Requested && told.child == 2 && told.count == 2;
-    let found = finds(pool, (), PIECES_THEN_WISHES);
-    receipts && found
-}
 
 #[test]
 fn pieces_go_before_wishes(rt: HostRuntime) -> Result<(), Fail> {
-    assert!(rt; holds(rt.alloc(), Look::PiecesFirst)?);
+    assert_eq!(rt; wrong(rt.alloc(), PIECES_THEN_WISHES)?, None);
     Ok(())
 }
 
-// What a hart finds: two pieces and one wish.
-const PIECES_THEN_ONE_WISH: &[Answer] = &[
-    Answer::Begins(0),
-    Answer::Begins(1),
-    Answer::Lends(2),
-    Answer::Nothing,
+const CONTEXTS_THEN_PIECE: &[(Move, Got)] = &[
+    (Block, Yes),
+    (PutBack, Yes),
+    (PutBack, Yes),
+    (PutBack, No),
+    (Enter, GoesOn),
+    (Enter, GoesOn),
+    (Enter, Begins(0)),
 ];
 
 #[test]
-fn a_wish_beyond_the_room_is_dropped(rt: HostRuntime) -> Result<(), Fail> {
-    let program = parsed(rt.alloc(), TWO_BRANCHES)?;
-    let jobs = first_jobs(rt.alloc(), &program)?;
-    let mut pool = Pool::with_wishes(rt.alloc(), jobs, 1)?;
-    pool.request((), 2, 2);
-    assert!(rt; finds(&mut pool, (), PIECES_THEN_ONE_WISH));
+fn ready_contexts_go_before_pieces(rt: HostRuntime) -> Result<(), Fail> {
+    assert_eq!(rt; wrong(rt.alloc(), CONTEXTS_THEN_PIECE)?, None);
     Ok(())
 }
 
-// What a hart finds: two contexts and the first of two pieces.
-const CONTEXTS_THEN_PIECE: &[Answer] = &[Answer::GoesOn, Answer::GoesOn, Answer::Begins(0)];
+const LAST_FIRST: &[(Move, Got)] = &[
+    (TakeLast(0), Nothing),
+    (TakeLast(1), Begins(1)),
+    (TakeLast(1), Nothing),
+    (TakeLast(0), Begins(0)),
+    (PutBack, Yes),
+    (CountReady, Count(1)),
+    (TakeReady, Yes),
+    (TakeReady, No),
+    (Enter, Nothing),
+];
 
-// Whether a pool's receipt has that a context waits at a mutex.
-fn returns_the_receipt_of_block(pool: &mut Pool) -> bool {
-    let told = pool.block(()).told();
-    told.call == Call::Blocked && told.child == 0 && told.count == 0
+#[test]
+fn the_last_job_is_taken_by_its_place(rt: HostRuntime) -> Result<(), Fail> {
+    assert_eq!(rt; wrong(rt.alloc(), LAST_FIRST)?, None);
+    Ok(())
 }
 
-// Puts three contexts back. Whether there was room for two, and they go before the pieces.
-fn contexts_go_first<'p>(
-    pool: &mut Pool<'p>,
-    alloc: Global,
-    jobs: &[Job<'p>],
-) -> Result<bool, Fail> {
-    let receipts = returns_the_receipt_of_block(pool);
-    let room = has_room(pool, (), alloc, jobs, TWO_OF_THREE)?;
-    let found = finds(pool, (), CONTEXTS_THEN_PIECE);
-    Ok(receipts && room && found)
+const PIECES_THEN_ONE_WISH: &[(Move, Got)] = &[
+    (Request(2, 2), Yes),
+    (Enter, Begins(0)),
+    (Enter, Begins(1)),
+    (Enter, Lends(2)),
+    (Enter, Nothing),
+];
+
+// The first wrong line of a script that a pool with room for one wish plays.
+fn wrong_with_one_wish(alloc: Global, script: &[(Move, Got)]) -> Result<Option<Wrong>, Fail> {
+    let program = parsed(alloc, TWO_BRANCHES)?;
+    let jobs = first_jobs(alloc, &program)?;
+    let mut pool = Pool::with_wishes(alloc, jobs, 1)?;
+    first_wrong(&mut pool, (), alloc, script)
 }
 
 #[test]
-fn ready_contexts_go_before_pieces(rt: HostRuntime) -> Result<(), Fail> {
-    assert!(rt; holds(rt.alloc(), Look::ContextsFirst)?);
+fn a_wish_beyond_the_room_is_dropped(rt: HostRuntime) -> Result<(), Fail> {
+    assert_eq!(rt;
+        wrong_with_one_wish(rt.alloc(), PIECES_THEN_ONE_WISH)?,
+        None
+    );
     Ok(())
 }
 
-// Brings the pieces of both jobs to the pool of site 1. Whether both are kept.
-fn keeps_both<'p>(pool: &mut Pool<'p>, alloc: Global, jobs: &[Job<'p>]) -> Result<bool, Fail> {
-    let second = bring(pool, alloc, jobs, 1)?;
-    let first = bring(pool, alloc, jobs, 0)?;
-    Ok(pool.site() == 1 && second == Came::Kept && first == Came::Kept)
-}
+const BOTH_PIECES: &[(Move, Got)] = &[(IsAt(1), Yes), (Bring(1), Kept), (Bring(0), Kept)];
 
-// Fills a pool with the pieces of its jobs. Whether both are kept.
-fn is_filled(pool: &mut Pool, alloc: Global) -> Result<bool, Fail> {
-    let copies = copy_jobs(alloc, pool.jobs())?;
-    keeps_both(pool, alloc, &copies)
+// What a pool of the two branches returns at its end, if it plays this script.
+fn end_after(alloc: Global, script: &[(Move, Got)]) -> Result<Got, Fail> {
+    let program = parsed(alloc, TWO_BRANCHES)?;
+    let mut pool = pool_of(alloc, &program)?;
+    match first_wrong(&mut pool, (), alloc, script)? {
+        Some(_) => Ok(Got::NoMove),
+        None => Ok(end_of(pool)),
+    }
 }
 
 #[test]
 fn a_full_pool_gives_the_writes_of_all(rt: HostRuntime) -> Result<(), Fail> {
-    let alloc = rt.alloc();
-    let program = parsed(alloc, TWO_BRANCHES)?;
-    let mut pool = pool_of(alloc, &program)?;
-    assert!(rt; is_filled(&mut pool, alloc)?);
-    assert!(rt; gives_both(pool));
-    Ok(())
-}
-
-// Takes the last job. Returns its index.
-fn last_taken(pool: &mut Pool, place: usize) -> Option<u8> {
-    match pool.take_last(place) {
-        Some(job) => Some(job.place),
-        None => None,
-    }
-}
-
-// Whether only the last job is taken, and by its index.
-fn is_taken_by_place(pool: &mut Pool, other: usize, last: usize, place: u8) -> bool {
-    let none = last_taken(pool, other).is_none();
-    let taken = last_taken(pool, last) == Some(place);
-    none && taken
-}
-
-// Whether a context is taken as ready.
-fn is_ready(pool: &mut Pool) -> bool {
-    matches!(pool.take_ready(), Some(PoolWork::Ready(_)))
-}
-
-// Whether no context is taken as ready.
-fn is_none_ready(pool: &mut Pool) -> bool {
-    pool.take_ready().is_none()
-}
-
-// Puts a context back. Returns whether it is the one that is taken as ready.
-fn is_taken_when_ready<'p>(
-    pool: &mut Pool<'p>,
-    alloc: Global,
-    jobs: &[Job<'p>],
-) -> Result<bool, Fail> {
-    let put = unblocked(pool, (), waiting(alloc, jobs)?);
-    let one = pool.ready_count() == 1;
-    let ready = is_ready(pool);
-    let none = is_none_ready(pool);
-    Ok(put && one && ready && none)
-}
-
-// Takes both jobs, then a context. Whether that leaves nothing.
-fn leaves_nothing<'p>(pool: &mut Pool<'p>, alloc: Global, jobs: &[Job<'p>]) -> Result<bool, Fail> {
-    let second = is_taken_by_place(pool, 0, 1, 1);
-    let first = is_taken_by_place(pool, 1, 0, 0);
-    let ready = is_taken_when_ready(pool, alloc, jobs)?;
-    Ok(entered(pool, ()) == Answer::Nothing && first && second && ready)
-}
-
-#[test]
-fn the_last_job_is_taken_by_its_place(rt: HostRuntime) -> Result<(), Fail> {
-    assert!(rt; holds(rt.alloc(), Look::Last)?);
+    assert_eq!(rt; wrong(rt.alloc(), BOTH_PIECES)?, None);
+    assert_eq!(rt; end_after(rt.alloc(), BOTH_PIECES)?, BothBranches);
     Ok(())
 }
