@@ -1,27 +1,15 @@
-//! What a hart finds when it enters a pipe, or its hand on one.
+//! What a hart does with a pipe, or with its hand on one.
+use crate::moves::{Got, was};
+use crate::samples::BOTH_STEPS;
 use array_eval::Overlay;
 use array_jobs::{Job, Piece, piece_of};
 use array_tree::Program;
-use join_book::Deposit;
 use pipe_sched::{Pipe, PipeWork};
 use sample_programs::{first_construct, waiting};
 use sched_api::{Next, Scheduler};
 use std::alloc::Global;
 use std::test::Fail;
 use step_eval::Kind;
-
-/// What a hart finds.
-#[derive(Clone, Copy, Debug, PartialEq, Eq)]
-pub enum Answer {
-    /// The piece of this member in this phase, which hasn't begun.
-    Begins(u8, u8),
-    /// A ready context.
-    GoesOn,
-    /// The wish of this site.
-    Lends(u16),
-    /// Nothing to do.
-    Nothing,
-}
 
 /// The pipe of a program that begins with a `team`.
 ///
@@ -34,30 +22,6 @@ pub fn pipe_of<'p>(alloc: Global, program: &'p Program) -> Result<Pipe<'p>, Fail
         Kind::Team => Ok(Pipe::new(alloc, nested)?),
         Kind::Par => Err(Fail::new("it is a par")),
     }
-}
-
-// The result of `enter`.
-fn answer_of(next: Next<PipeWork>) -> Answer {
-    match next {
-        Next::Run(PipeWork::Begin(job)) => Answer::Begins(job.place, job.phase),
-        Next::Run(PipeWork::Ready(_)) => Answer::GoesOn,
-        Next::Lend(site) => Answer::Lends(site),
-        Next::Nothing => Answer::Nothing,
-    }
-}
-
-/// Whether a hart finds this, one after another.
-pub fn finds<'p, S: Scheduler<Ctx = PipeWork<'p>>>(
-    scheduler: &mut S,
-    hold: S::Hold,
-    answers: &[Answer],
-) -> bool {
-    for answer in answers {
-        if answer_of(scheduler.enter(hold)) != *answer {
-            return false;
-        }
-    }
-    true
 }
 
 /// The piece that begins next, run to its end.
@@ -76,31 +40,19 @@ pub fn next_piece<'p, S: Scheduler<Ctx = PipeWork<'p>>>(
     }
 }
 
-/// Puts a context back, with a machine for the first of the jobs. Returns whether there was room.
+/// Puts a context back, with a machine for the first of the jobs.
 ///
 /// # Errors
 ///
 /// A failure of the test if there is no job, or an allocation fails.
-pub fn puts_back<'p, S: Scheduler<Ctx = PipeWork<'p>>>(
+pub fn put_back<'p, S: Scheduler<Ctx = PipeWork<'p>>>(
     scheduler: &mut S,
     hold: S::Hold,
     alloc: Global,
     jobs: &[Job<'p>],
-) -> Result<bool, Fail> {
+) -> Result<Got, Fail> {
     let context = waiting(alloc, jobs)?;
-    Ok(scheduler.unblock(hold, PipeWork::Ready(context)).is_ok())
-}
-
-/// Checks that a piece was kept.
-///
-/// # Errors
-///
-/// A failure of the test if it wasn't.
-pub fn kept(deposit: Deposit) -> Result<(), Fail> {
-    match deposit {
-        Deposit::Kept => Ok(()),
-        _ => Err(Fail::new("the piece isn't kept")),
-    }
+    Ok(was(scheduler.unblock(hold, PipeWork::Ready(context)).is_ok()))
 }
 
 // The writes of a full pipe. A failed pipe, and one that isn't full, return none.
@@ -111,17 +63,20 @@ fn taken(pipe: Pipe) -> Option<Overlay> {
     pipe.take_all().ok()
 }
 
-/// Whether a pipe is full and has these writes.
-pub fn gives(pipe: Pipe, expected: &[(u16, i64)]) -> bool {
-    match taken(pipe) {
-        Some(written) => written.pairs() == expected,
-        None => false,
+/// Whether there is an overlay, and if so, whether it has the writes of both phases.
+pub fn writes_in(overlay: Option<Overlay>) -> Got {
+    match overlay {
+        Some(written) if written.pairs() == BOTH_STEPS.as_slice() => Got::BothSteps,
+        Some(_) => Got::OtherWrites,
+        None => Got::Nothing,
     }
 }
 
-/// Whether a pipe is full, has failed, and has no writes.
-pub fn gives_nothing(pipe: Pipe) -> bool {
+/// What a pipe returns at its end.
+pub fn end_of(pipe: Pipe) -> Got {
     let failed = pipe.is_full() && pipe.has_failed();
-    let nothing = taken(pipe).is_none();
-    failed && nothing
+    match writes_in(taken(pipe)) {
+        Got::Nothing if failed => Got::NoWrites,
+        written => written,
+    }
 }

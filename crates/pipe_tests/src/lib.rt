@@ -8,6 +8,8 @@ mod hands;
 #[cfg(test)]
 mod harts;
 #[cfg(test)]
+mod moves;
+#[cfg(test)]
 mod pipes;
 #[cfg(test)]
 mod samples;

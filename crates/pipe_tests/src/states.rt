@@ -1,39 +1,42 @@
-//! The state of a pipeline.
-use crate::samples::{BOTH_STEPS, TWO_STEPS};
+//! The state of a pipeline of three members with two phases, which plays scripts.
+use crate::harts::writes_in;
+use crate::moves::Got::*;
+use crate::moves::Move::*;
+use crate::moves::{Got, Move, Played, Wrong, came, first_wrong, was};
+use crate::samples::TWO_STEPS;
 use array_jobs::{Job, Piece, piece_of};
 use array_tree::Program;
-use join_book::Deposit;
 use pipe_sched::PipeState;
-use sample_programs::{Came, first_construct, first_jobs, outcome_of, parsed, piece_at};
+use sample_programs::{first_construct, first_jobs, outcome_of, parsed, piece_at};
 use std::alloc::Global;
 use std::test::Fail;
 use step_eval::Kind;
 
+// A pipeline, and a piece that a hart keeps.
+#[derive(Drop)]
+struct Line<'p> {
+    state: PipeState<'p>,
+    kept: Option<Piece<'p>>,
+}
+
 // The pipeline of a program that begins with a `team`.
-fn pipe_of<'p>(alloc: Global, program: &'p Program) -> Result<PipeState<'p>, Fail> {
+fn line_of<'p>(alloc: Global, program: &'p Program) -> Result<Line<'p>, Fail> {
     let nested = first_construct(alloc, program)?;
     match nested.kind() {
-        Kind::Team => Ok(PipeState::new(alloc, nested)?),
+        Kind::Team => Ok(Line {
+            state: PipeState::new(alloc, nested)?,
+            kept: None,
+        }),
         Kind::Par => Err(Fail::new("it is a par")),
     }
 }
 
-// The member and the phase of a job.
-fn told(job: &Option<Job>) -> Option<(u8, u8)> {
-    match job {
-        Some(job) => Some((job.place, job.phase)),
-        None => None,
+// Hands out the piece that is due.
+fn handed_out(state: &mut PipeState) -> Result<Got, Fail> {
+    match state.next()? {
+        Some(job) => Ok(Got::Begins(job.place, job.phase)),
+        None => Ok(Got::Nothing),
     }
-}
-
-// Whether the pipeline hands out the piece of this member in this phase.
-fn hands_out(state: &mut PipeState, member: u8, phase: u8) -> Result<bool, Fail> {
-    Ok(told(&state.next()?) == Some((member, phase)))
-}
-
-// Whether it hands out nothing.
-fn waits(state: &mut PipeState) -> Result<bool, Fail> {
-    Ok(told(&state.next()?) == None)
 }
 
 // The piece that it hands out.
@@ -44,106 +47,154 @@ fn next_piece<'p>(alloc: Global, state: &mut PipeState<'p>) -> Result<Piece<'p>,
     }
 }
 
-// Fills a piece that it handed out.
-fn fill<'p>(state: &mut PipeState<'p>, piece: Piece<'p>) -> Result<(), Fail> {
-    match state.deposit(piece) {
-        Deposit::Kept => Ok(()),
-        _ => Err(Fail::new("the piece isn't kept")),
-    }
-}
-
 // Hands out the piece that is due, and fills it.
-fn fill_next<'p>(alloc: Global, state: &mut PipeState<'p>) -> Result<(), Fail> {
+fn filled(alloc: Global, state: &mut PipeState) -> Result<Got, Fail> {
     let piece = next_piece(alloc, state)?;
-    fill(state, piece)
+    Ok(came(outcome_of(state.deposit(piece))))
 }
 
-// Whether a full pipeline has these writes.
-fn has_written(state: PipeState, expected: &[(u16, i64)]) -> Result<bool, Fail> {
-    if !state.is_full() {
-        return Err(Fail::new("the pipeline isn't full"));
-    }
-    Ok(state.take_all()?.pairs() == expected)
-}
-
-// Whether a full pipeline returns an allocation failure.
-fn has_failed(state: PipeState) -> Result<bool, Fail> {
-    if !state.is_full() {
-        return Err(Fail::new("the pipeline isn't full"));
-    }
-    Ok(state.take_all().is_err())
+// Fills the piece of a job.
+fn brought<'p>(
+    state: &mut PipeState<'p>,
+    alloc: Global,
+    jobs: &[Job<'p>],
+    place: usize,
+) -> Result<Got, Fail> {
+    let piece = piece_at(alloc, jobs, place)?;
+    Ok(came(outcome_of(state.deposit(piece))))
 }
 
 // Fails the piece that it hands out.
-fn fail_next(state: &mut PipeState) -> Result<(), Fail> {
+fn failed(state: &mut PipeState) -> Result<Got, Fail> {
     match state.next()? {
         Some(job) => {
             state.fail(job.place, job.phase);
-            Ok(())
+            Ok(Got::Yes)
         }
-        None => Err(Fail::new("no piece is due")),
+        None => Ok(Got::No),
     }
 }
+
+// Hands out the piece that is due, and keeps it.
+fn keep_next(alloc: Global, line: &mut Line) -> Result<Got, Fail> {
+    let piece = next_piece(alloc, &mut line.state)?;
+    let got = Got::Begins(piece.job.place, piece.job.phase);
+    line.kept = Some(piece);
+    Ok(got)
+}
+
+// Fills the piece that is kept.
+fn bring_kept(line: &mut Line) -> Got {
+    match line.kept.take() {
+        Some(piece) => came(outcome_of(line.state.deposit(piece))),
+        None => Got::Nothing,
+    }
+}
+
+// Beside the jobs of the first phase.
+impl<'j, 'p> Played<&'j [Job<'p>]> for Line<'p> {
+    fn does(&mut self, hold: &'j [Job<'p>], alloc: Global, it: Move) -> Result<Got, Fail> {
+        match it {
+            Move::Enter => handed_out(&mut self.state),
+            Move::FillNext => filled(alloc, &mut self.state),
+            Move::KeepNext => keep_next(alloc, self),
+            Move::BringKept => Ok(bring_kept(self)),
+            Move::Bring(place) => brought(&mut self.state, alloc, hold, place),
+            Move::FailNext => failed(&mut self.state),
+            Move::IsFull => Ok(was(self.state.is_full())),
+            _ => Ok(Got::NoMove),
+        }
+    }
+}
+
+// The first wrong line of a script.
+fn wrong(alloc: Global, script: &[(Move, Got)]) -> Result<Option<Wrong>, Fail> {
+    let program = parsed(alloc, TWO_STEPS)?;
+    let jobs = first_jobs(alloc, &program)?;
+    let mut line = line_of(alloc, &program)?;
+    first_wrong(&mut line, jobs.as_slice(), alloc, script)
+}
+
+// What a pipeline returns at its end.
+fn end_of(line: Line) -> Got {
+    let Line { state, kept: _ } = line;
+    if !state.is_full() {
+        return Got::No;
+    }
+    writes_in(state.take_all().ok())
+}
+
+// The same if it plays this script.
+fn end_after(alloc: Global, script: &[(Move, Got)]) -> Result<Got, Fail> {
+    let program = parsed(alloc, TWO_STEPS)?;
+    let jobs = first_jobs(alloc, &program)?;
+    let mut line = line_of(alloc, &program)?;
+    match first_wrong(&mut line, jobs.as_slice(), alloc, script)? {
+        Some(_) => Ok(Got::NoMove),
+        None => Ok(end_of(line)),
+    }
+}
+
+const OVERTAKES: &[(Move, Got)] = &[
+    (KeepNext, Begins(0, 0)),
+    (Enter, Nothing),
+    (BringKept, Kept),
+    (Enter, Begins(0, 1)),
+    (Enter, Begins(1, 0)),
+    (Enter, Nothing),
+];
 
 #[test]
 fn a_member_overtakes_those_above_it(rt: HostRuntime) -> Result<(), Fail> {
-    let program = parsed(rt.alloc(), TWO_STEPS)?;
-    let mut state = pipe_of(rt.alloc(), &program)?;
-    let piece = next_piece(rt.alloc(), &mut state)?;
-    assert!(rt; piece.job.place == 0);
-    assert!(rt; waits(&mut state)?);
-    fill(&mut state, piece)?;
-    assert!(rt; hands_out(&mut state, 0, 1)?);
-    assert!(rt; hands_out(&mut state, 1, 0)?);
-    assert!(rt; waits(&mut state)?);
+    assert_eq!(rt; wrong(rt.alloc(), OVERTAKES)?, None);
     Ok(())
 }
+
+const ANY_ORDER: &[(Move, Got)] = &[
+    (FillNext, Kept),
+    (KeepNext, Begins(0, 1)),
+    (FillNext, Kept),
+    (FillNext, Kept),
+    (Enter, Nothing),
+    (BringKept, Kept),
+    (FillNext, Kept),
+    (FillNext, Kept),
+];
 
 #[test]
 fn pieces_come_back_in_any_order(rt: HostRuntime) -> Result<(), Fail> {
-    let program = parsed(rt.alloc(), TWO_STEPS)?;
-    let mut state = pipe_of(rt.alloc(), &program)?;
-    fill_next(rt.alloc(), &mut state)?;
-    let early = next_piece(rt.alloc(), &mut state)?;
-    for _turn in 0..2 {
-        fill_next(rt.alloc(), &mut state)?;
-    }
-    assert!(rt; waits(&mut state)?);
-    fill(&mut state, early)?;
-    for _turn in 0..2 {
-        fill_next(rt.alloc(), &mut state)?;
-    }
-    assert!(rt; has_written(state, &BOTH_STEPS)?);
+    assert_eq!(rt; wrong(rt.alloc(), ANY_ORDER)?, None);
+    assert_eq!(rt; end_after(rt.alloc(), ANY_ORDER)?, BothSteps);
     Ok(())
 }
+
+const FAILS: &[(Move, Got)] = &[
+    (FillNext, Kept),
+    (KeepNext, Begins(0, 1)),
+    (FailNext, Yes),
+    (Enter, Nothing),
+    (IsFull, No),
+    (BringKept, Kept),
+    (IsFull, Yes),
+];
 
 #[test]
 fn what_comes_after_a_piece_that_failed_is_never_handed_out(rt: HostRuntime) -> Result<(), Fail> {
-    let program = parsed(rt.alloc(), TWO_STEPS)?;
-    let mut state = pipe_of(rt.alloc(), &program)?;
-    fill_next(rt.alloc(), &mut state)?;
-    let late = next_piece(rt.alloc(), &mut state)?;
-    fail_next(&mut state)?;
-    assert!(rt; waits(&mut state)?);
-    assert!(rt; !state.is_full());
-    fill(&mut state, late)?;
-    assert!(rt; has_failed(state)?);
+    assert_eq!(rt; wrong(rt.alloc(), FAILS)?, None);
+    assert_eq!(rt; end_after(rt.alloc(), FAILS)?, Nothing);
     Ok(())
 }
 
+const KEPT_ONCE: &[(Move, Got)] = &[
+    (Bring(0), Stranger),
+    (Enter, Begins(0, 0)),
+    (Bring(0), Kept),
+    (Bring(0), Double),
+    (Bring(1), Stranger),
+];
+
 #[test]
 fn a_piece_is_kept_once(rt: HostRuntime) -> Result<(), Fail> {
-    let program = parsed(rt.alloc(), TWO_STEPS)?;
-    let mut state = pipe_of(rt.alloc(), &program)?;
-    let jobs = first_jobs(rt.alloc(), &program)?;
-    let stranger = outcome_of(state.deposit(piece_at(rt.alloc(), &jobs, 0)?));
-    assert!(rt; stranger == Came::Stranger);
-    assert!(rt; hands_out(&mut state, 0, 0)?);
-    let kept = outcome_of(state.deposit(piece_at(rt.alloc(), &jobs, 0)?));
-    assert!(rt; kept == Came::Kept);
-    let double = outcome_of(state.deposit(piece_at(rt.alloc(), &jobs, 0)?));
-    assert!(rt; double == Came::Double);
-    let other = outcome_of(state.deposit(piece_at(rt.alloc(), &jobs, 1)?));
-    assert!(rt; other == Came::Stranger);
+    assert_eq!(rt; wrong(rt.alloc(), KEPT_ONCE)?, None);
     Ok(())
 }

@@ -1,7 +1,8 @@
 //! Two harts on threads that run one pipe, each by hands of its own.
 use crate::hands::shared_pipe;
-use crate::harts::gives;
-use crate::samples::{BOTH_STEPS, TWO_STEPS};
+use crate::harts::end_of;
+use crate::moves::Got;
+use crate::samples::TWO_STEPS;
 use array_jobs::{Job, piece_of};
 use pipe_sched::{PipeHand, PipeWork, SharedPipe};
 use sample_programs::parsed;
@@ -74,7 +75,7 @@ fn run_by_two<'x, 'p: 'x, R: Threads + Wait + Sync>(
 fn gives_all<'x, 'p: 'x, R: Wait>(rt: &'x R, shared: &'x SharedPipe<'p>) -> bool {
     let hand = PipeHand::new(shared);
     match hand.take_out(rt) {
-        Some(pipe) => gives(pipe, &BOTH_STEPS),
+        Some(pipe) => end_of(pipe) == Got::BothSteps,
         None => false,
     }
 }
