@@ -97,6 +97,12 @@ static void *thread_ends(void *arg) {
     return (void *)1;
 }
 
+/* Whether all harts come back to the base, within ten seconds. */
+static int all_come_back(void) {
+    for (int k = 0; k < 10000 && lithe_idle_at_base() != lithe_count(); k++) usleep(1000);
+    return lithe_idle_at_base() == lithe_count();
+}
+
 static void threads_that_end(void) {
     for (int outside = 0; outside < 2; outside++) {
         for (int k = 0; k < 10; k++) {
@@ -110,7 +116,7 @@ static void threads_that_end(void) {
             work();
         }
     }
-    MUST(lithe_idle_at_base() == lithe_count());
+    MUST(all_come_back());
     /* Workers did end, and others were made. */
     MUST(lithe_count() == 1 || lithe_count_of(LITHE_THREADS) >= lithe_count());
 }
