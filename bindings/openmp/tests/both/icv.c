@@ -51,7 +51,7 @@ int main(void) {
 #pragma omp parallel num_threads(2)
     {
 #pragma omp critical
-        if (omp_get_thread_num() == 1) print("member");
+        if (omp_get_thread_num() == 1 && !omp_get_dynamic()) print("member"); /* a dynamic team may have one member */
 #pragma omp barrier
 #pragma omp parallel num_threads(2)
         {
