@@ -94,7 +94,7 @@ static void run_taskloop(const body *b, loop *l, unsigned long number) {
     bool has_group = !(l->flags & FLAG_NOGROUP);
     if (set.cancellation && !has_group && is_cancelled_for(c)) return;
     if (l->plan.count == 0) {
-        /* Tells the caller that nothing was registered. */
+        /* Reports to the caller that nothing was registered. */
         if (has_group && (l->flags & FLAG_REDUCTION)) ((head *)b->data)->reductions[2] = 0;
         return;
     }
