@@ -111,8 +111,8 @@ static void reductions(void) {
     lithe_reduce(100000, 100, sizeof harmonic, &harmonic, add_parts, join_parts, NULL);
     /* The 100,000th harmonic number is 12.0901461298634... The script compares the bits between numbers of harts. */
     MUST(harmonic > 12.09014612986 && harmonic < 12.09014612987);
-    static int told;
-    if (!told++) printf("harmonic %a\n", harmonic);
+    static int is_printed;
+    if (!is_printed++) printf("harmonic %a\n", harmonic);
 }
 
 static _Atomic long total;
