@@ -1,5 +1,5 @@
--- The effect of each of the eighteen kinds of step, and of making and joining seats, on the invariant and on the journal. In each
--- law, id is a seat that was not joined into hart 0's, and v is its view.
+-- The effect of each kind of step, and of making and joining seats, on the invariant and on the journal. In each law, id is a seat
+-- that was not joined into hart 0's, and v is its view.
 use Rattle.std.specs.Prelude.{◌≡◌, ◌≢◌, ℕ, ◌+◌, ◌-◌, ◌*◌, ◌%◌, ◌^◌, ◌<◌, ◌≤◌, ◌==◌, [], ◌∷◌, ◌++◌, slice_index, slice_set, bit_or, Some}
 use mathlib.Core.Option.{some}
 use lib.ListN.{get_elem?}
