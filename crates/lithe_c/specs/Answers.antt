@@ -19,11 +19,11 @@ use Rattle.lithe_c.specs.declared.lent.Lent.{Lent}
 
 -- The board of the hart.
 abbrev pub board_of : Lent → OpenBoard
-board_of l = arc_value l.board
+board_of l = arc_value l.seated.board
 
 -- The hart's view.
 abbrev pub view_of : Lent → View
-view_of l = l.seat.seat.me.0
+view_of l = l.seated.seat.seat.me.0
 
 -- A register, with the value at the site's number before and after.
 abbrev pub ReturnsRegister : Lent → ℕ → ℕ → ℕ → Lent → Type 0

@@ -13,7 +13,7 @@ pub(crate) fn registered(hart: LitheHart, none: ()) -> (LitheHart, Result<u16, T
     ensures does { Registers (view_of hart.lent) result.1 (view_of result.0.lent) }
 {
     let mut lent = hart.into_box();
-    let made = lent.register();
+    let made = lent.seated.register();
     (LitheHart::of_box(lent), made)
 }
 
@@ -25,7 +25,7 @@ pub(crate) fn registered_wishing(
     ensures does { ChecksRegisterWishing (board_of hart.lent).size (view_of hart.lent) count result.1 (view_of result.0.lent) }
 {
     let mut lent = hart.into_box();
-    let made = lent.register_wishing(count);
+    let made = lent.seated.register_wishing(count);
     (LitheHart::of_box(lent), made)
 }
 
@@ -34,7 +34,7 @@ pub(crate) fn requested(hart: LitheHart, count: u8) -> (LitheHart, Result<(), Re
     ensures does { ChecksRequest (board_of hart.lent).size (view_of hart.lent) count result.1 (view_of result.0.lent) }
 {
     let mut lent = hart.into_box();
-    let made = lent.request(count);
+    let made = lent.seated.request(count);
     (LitheHart::of_box(lent), made)
 }
 
@@ -43,7 +43,7 @@ pub(crate) fn entered(hart: LitheHart, site: u16) -> (LitheHart, Result<Entered,
     ensures does { ChecksEnter (board_of hart.lent).size (view_of hart.lent) site result.1 (view_of result.0.lent) }
 {
     let mut lent = hart.into_box();
-    let made = lent.try_enter(site);
+    let made = lent.seated.try_enter(site);
     (LitheHart::of_box(lent), made)
 }
 
@@ -52,7 +52,7 @@ pub(crate) fn yielded(hart: LitheHart, none: ()) -> (LitheHart, Result<(), Refus
     ensures does { ChecksYield (view_of hart.lent) result.1 (view_of result.0.lent) }
 {
     let mut lent = hart.into_box();
-    let made = lent.yield_hart();
+    let made = lent.seated.yield_hart();
     (LitheHart::of_box(lent), made)
 }
 
@@ -61,7 +61,7 @@ pub(crate) fn closed(hart: LitheHart, none: ()) -> (LitheHart, Result<(), Refuse
     ensures does { ChecksClose (view_of hart.lent) result.1 (view_of result.0.lent) }
 {
     let mut lent = hart.into_box();
-    let made = lent.close();
+    let made = lent.seated.close();
     (LitheHart::of_box(lent), made)
 }
 
@@ -70,7 +70,7 @@ pub(crate) fn looked(hart: LitheHart, none: ()) -> (LitheHart, Result<Seen, Refu
     ensures does { ChecksLook (view_of hart.lent) result.1 (view_of result.0.lent) }
 {
     let mut lent = hart.into_box();
-    let made = lent.see_empty();
+    let made = lent.seated.see_empty();
     (LitheHart::of_box(lent), made)
 }
 
@@ -79,7 +79,7 @@ pub(crate) fn unregistered(hart: LitheHart, none: ()) -> (LitheHart, Result<(), 
     ensures does { ChecksUnregister (view_of hart.lent) result.1 (view_of result.0.lent) }
 {
     let mut lent = hart.into_box();
-    let made = lent.unregister();
+    let made = lent.seated.unregister();
     (LitheHart::of_box(lent), made)
 }
 
@@ -88,7 +88,7 @@ pub(crate) fn finished(hart: LitheHart, none: ()) -> (LitheHart, Result<Finish, 
     ensures does { ChecksEnd (view_of hart.lent) result.1 (view_of result.0.lent) }
 {
     let mut lent = hart.into_box();
-    let made = lent.end_if_empty();
+    let made = lent.seated.end_if_empty();
     (LitheHart::of_box(lent), made)
 }
 
@@ -97,7 +97,7 @@ pub(crate) fn yielded_last(hart: LitheHart, none: ()) -> (LitheHart, Result<bool
     ensures does { ChecksYieldLast (view_of hart.lent) result.1 (view_of result.0.lent) }
 {
     let mut lent = hart.into_box();
-    let made = lent.yield_last();
+    let made = lent.seated.yield_last();
     (LitheHart::of_box(lent), made)
 }
 
@@ -106,7 +106,7 @@ pub(crate) fn withdrawn(hart: LitheHart, count: u8) -> (LitheHart, Result<Withdr
     ensures does { ChecksWithdraw (view_of hart.lent) count result.1 (view_of result.0.lent) }
 {
     let mut lent = hart.into_box();
-    let made = lent.withdraw(count);
+    let made = lent.seated.withdraw(count);
     (LitheHart::of_box(lent), made)
 }
 
@@ -115,7 +115,7 @@ pub(crate) fn home_read(hart: LitheHart, none: ()) -> (LitheHart, Result<Counts,
     ensures does { ChecksReadHome (view_of hart.lent) result.1 (view_of result.0.lent) }
 {
     let mut lent = hart.into_box();
-    let made = lent.read_home();
+    let made = lent.seated.read_home();
     (LitheHart::of_box(lent), made)
 }
 
@@ -124,7 +124,7 @@ pub(crate) fn site_read(hart: LitheHart, site: u16) -> (LitheHart, Result<Counts
     ensures does { ChecksReadSite (board_of hart.lent).size (view_of hart.lent) site result.1 (view_of result.0.lent) }
 {
     let mut lent = hart.into_box();
-    let made = lent.read_site(site);
+    let made = lent.seated.read_site(site);
     (LitheHart::of_box(lent), made)
 }
 
@@ -133,6 +133,6 @@ pub(crate) fn owned(hart: LitheHart, none: ()) -> (LitheHart, u16)
     ensures owner { result.1 ≡ owner_of (view_of hart.lent) }
 {
     let lent = hart.into_box();
-    let owner = lent.owner();
+    let owner = lent.seated.owner();
     (LitheHart::of_box(lent), owner)
 }

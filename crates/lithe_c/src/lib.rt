@@ -40,7 +40,6 @@ ghost use Rattle.lithe_c.specs.Status.{EndsText};
 mod calls;
 mod hart;
 mod lent;
-mod lent_calls;
 mod making;
 mod parts;
 mod status;
