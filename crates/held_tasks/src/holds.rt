@@ -8,9 +8,10 @@ pub trait Holds<T: TaskKind>: TaskKind {
     /// The task, as a task of this kind.
     ghost held: { T → Self };
 
-    /// Turns a task into a task of this kind.
+    /// Turns a task into a task of this kind, which requires no more than the task alone.
     fn hold(task: T) -> Self
-        ensures { result ≡ held task };
+        ensures held { result ≡ held task }
+        ensures ready { T.ready task → Self.ready result };
 
     /// Turns an output of a task that was held into that task's own. `None` only if no task of the kind `T` has it.
     fn output_of(output: Self::Output) -> Option<T::Output>

@@ -22,7 +22,8 @@ pub fn fork_join_as<T: TaskKind, V: Holds<T>, H: Harts<V>>(
     harts: &mut H,
     tasks: Vec<T>,
 ) -> Result<Vec<T::Output>, T::Error>
-    requires { All (λ task. T.depth task < H.levels harts.old) tasks.items }
+    requires depth { All (λ task. T.depth task < H.levels harts.old) tasks.items }
+    requires ready { All T.ready tasks.items }
     ensures outputs { IfOk result (λ outputs. AllZip T.gives tasks.items outputs.items) }
     ensures error { IfErr result (λ error. FirstFailure T.gives T.fails tasks.items error
         ⊎ T.Error.from_gives alloc_error error) }
@@ -56,6 +57,8 @@ pub fn join_as<T: TaskKind, V: Holds<T>, H: Harts<V>>(
 ) -> Result<(T::Output, T::Output), T::Error>
     requires first { T.depth first < H.levels harts.old }
     requires second { T.depth second < H.levels harts.old }
+    requires first_ready { T.ready first }
+    requires second_ready { T.ready second }
     ensures outputs { IfOk result
         (λ outputs. T.gives first outputs.0 × T.gives second outputs.1) }
     ensures error { IfErr result (λ error. FailsOfTwo T.gives T.fails first second error
@@ -77,7 +80,9 @@ pub fn join_as<T: TaskKind, V: Holds<T>, H: Harts<V>>(
 
 // Each task, as a task of the other kind.
 fn hold_all<T: TaskKind, V: Holds<T>>(alloc: Global, tasks: Vec<T>) -> Result<Vec<V>, AllocError>
+    requires { All T.ready tasks.items }
     ensures held { IfOk result (λ held. held.items ≡ map V.held tasks.items) }
+    ensures ready { IfOk result (λ held. All V.ready held.items) }
     ensures no_tasks { tasks.items ≡ [] → IsOk result }
 {
     let mut held = Vec::with_capacity(alloc, tasks.len())?;

@@ -24,6 +24,8 @@ pub fn join_two<A: TaskKind, B: TaskKind, V: Holds<A> + Holds<B>, H: Harts<V>>(
 ) -> Result<(A::Output, B::Output), V::Error>
     requires first { A.depth first < H.levels harts.old }
     requires second { B.depth second < H.levels harts.old }
+    requires first_ready { A.ready first }
+    requires second_ready { B.ready second }
     ensures outputs { IfOk result
         (λ outputs. A.gives first outputs.0 × B.gives second outputs.1) }
     ensures error { IfErr result (λ error. FailsOfTwo V.gives V.fails (⟦<V as Holds<A>>⟧.held first)

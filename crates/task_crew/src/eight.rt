@@ -39,7 +39,8 @@ pub fn run_on_eight_levels<T: Task + Send, R: Threads + Wait + Sync>(
 where
     T::Output: Send,
     T::Error: Send,
-    requires { T.depth task ≤ levels }
+    requires depth { T.depth task ≤ levels }
+    requires ready { T.ready task }
     ensures output { IfOk result (λ output. T.gives task output) }
     ensures error { IfErr result
         (RunFails 8 harts levels (T.fails task) (T.Error.from_gives alloc_error)) }
@@ -70,7 +71,8 @@ pub fn run_observed_eight_levels<T: Task + Send, R: Threads + Observer + Sync>(
 where
     T::Output: Send,
     T::Error: Send,
-    requires { T.depth task ≤ levels }
+    requires depth { T.depth task ≤ levels }
+    requires ready { T.ready task }
     ensures output { IfOk result (λ output. T.gives task output) }
     ensures error { IfErr result
         (RunFails 8 harts levels (T.fails task) (T.Error.from_gives alloc_error)) }
@@ -109,6 +111,7 @@ where
     T::Error: Send,
     requires seated { AreSeated B.table B.size run.board run.seats.items }
     requires depth { T.depth run.task ≤ run.levels }
+    requires ready { T.ready run.task }
     requires levels { run.levels ≤ 8 }
     ensures { Ends T.gives T.fails (T.Error.from_gives alloc_error) run.task result }
 {

@@ -59,7 +59,8 @@ pub fn run_on<T: Task + Send, R: Threads + Wait + Sync>(
 where
     T::Output: Send,
     T::Error: Send,
-    requires { T.depth task ≤ levels }
+    requires depth { T.depth task ≤ levels }
+    requires ready { T.ready task }
     ensures output { IfOk result (λ output. T.gives task output) }
     ensures error { IfErr result
         (RunFails 16 harts levels (T.fails task) (T.Error.from_gives alloc_error)) }
@@ -94,7 +95,8 @@ pub fn run_observed<T: Task + Send, R: Threads + Observer + Sync>(
 where
     T::Output: Send,
     T::Error: Send,
-    requires { T.depth task ≤ levels }
+    requires depth { T.depth task ≤ levels }
+    requires ready { T.ready task }
     ensures output { IfOk result (λ output. T.gives task output) }
     ensures error { IfErr result
         (RunFails 16 harts levels (T.fails task) (T.Error.from_gives alloc_error)) }
@@ -144,6 +146,7 @@ where
     T::Error: Send,
     requires seated { AreSeated B.table B.size run.board run.seats.items }
     requires depth { T.depth run.task ≤ run.levels }
+    requires ready { T.ready run.task }
     requires levels { run.levels ≤ 16 }
     ensures { Ends T.gives T.fails (T.Error.from_gives alloc_error) run.task result }
 {
@@ -161,6 +164,7 @@ where
     T::Error: Send,
     requires seated { AreSeated B.table B.size run.board run.seats.items }
     requires depth { T.depth run.task ≤ run.levels }
+    requires ready { T.ready run.task }
     requires levels { run.levels ≤ 12 + L.count }
     ensures { Ends T.gives T.fails (T.Error.from_gives alloc_error) run.task result }
 {
@@ -178,6 +182,7 @@ where
     T::Error: Send,
     requires seated { AreSeated B.table B.size run.board run.seats.items }
     requires depth { T.depth run.task ≤ run.levels }
+    requires ready { T.ready run.task }
     requires levels { run.levels ≤ 8 + L.count }
     ensures { Ends T.gives T.fails (T.Error.from_gives alloc_error) run.task result }
 {
@@ -195,6 +200,7 @@ where
     T::Error: Send,
     requires seated { AreSeated B.table B.size run.board run.seats.items }
     requires depth { T.depth run.task ≤ run.levels }
+    requires ready { T.ready run.task }
     requires levels { run.levels ≤ 4 + L.count }
     ensures { Ends T.gives T.fails (T.Error.from_gives alloc_error) run.task result }
 {
@@ -213,6 +219,7 @@ where
     T::Error: Send,
     requires seated { AreSeated B.table B.size run.board run.seats.items }
     requires depth { T.depth run.task ≤ run.levels }
+    requires ready { T.ready run.task }
     requires levels { run.levels ≤ L.count }
     ensures { Ends T.gives T.fails (T.Error.from_gives alloc_error) run.task result }
 {
@@ -272,6 +279,7 @@ where
     requires seats { All (IsSeatOf B.table B.size) seats.items }
     requires some { 1 ≤ vec_len seats }
     requires depth { T.depth task ≤ levels }
+    requires ready { T.ready task }
     requires levels { levels ≤ L.count }
     ensures outcome { IfOk result
         (λ r. Ends T.gives T.fails (T.Error.from_gives alloc_error) task r.0) }
@@ -291,7 +299,7 @@ where
             ensures { vec_len result ≡ vec_len guests.entry }
         { serve_all::<B, T, R, L>(rt, alloc, guests) },
         move || -> (Hart<'_, T, R, B>, Outcome<T>)
-            requires { (T.depth task ≤ levels) × (levels ≤ L.count) }
+            requires { (T.depth task ≤ levels) × (levels ≤ L.count) × T.ready task }
             ensures { Ends T.gives T.fails (T.Error.from_gives alloc_error) task result.1 }
         { run_home::<B, T, R, L>(alloc, crew, home, levels, task) },
     );
@@ -324,6 +332,7 @@ fn run_home<'c, B: Naming, T: Task, R: Observer, L: Levels<T, R, B>>(
     task: T,
 ) -> (Hart<'c, T, R, B>, Outcome<T>)
     requires depth { T.depth task ≤ levels }
+    requires ready { T.ready task }
     requires levels { levels ≤ L.count }
     ensures { Ends T.gives T.fails (T.Error.from_gives alloc_error) task result.1 }
 {

@@ -34,6 +34,9 @@ pub trait Fold: Indices {
     /// How many levels of tasks may be inside one leaf.
     ghost depth: { Self → ℕ };
 
+    /// What an index requires to be run. By default nothing. A range requires what its indices require.
+    ghost ready: { Self → ℕ → Type 0 } = { λ _ _. Unit {0} };
+
     /// Joins the outputs of two neighbouring ranges, in order.
     ///
     /// # Errors
@@ -74,6 +77,7 @@ pub trait Leaf<V: TaskKind>: Fold {
         requires in_order { low ≤ high }
         requires within { high ≤ Self.size self.now }
         requires levels { Self.depth self.now ≤ H.levels harts.old }
+        requires ready { (index : ℕ) → low ≤ index → index < high → Self.ready self.now index }
         ensures output { IfOk result (λ output. Self.gives self.now low high output) }
         ensures error { IfErr result (λ error. Self.fails self.now low high error
             ⊎ Self.Error.from_gives alloc_error error) }
@@ -130,6 +134,8 @@ impl<F: Fold> TaskKind for Part<F> {
     ghost fails = { λ task error. F.fails task.fold task.low task.high error };
 
     ghost depth = { λ task. task.cuts + F.depth task.fold };
+
+    ghost ready = { λ task. (index : ℕ) → task.low ≤ index → index < task.high → F.ready task.fold index };
 }
 
 impl<F: Fold> Holds<Part<F>> for Part<F> {
@@ -178,7 +184,8 @@ pub fn run_fold<F: Leaf<V>, V: Holds<Part<F>>, H: Harts<V>>(
     harts: &mut H,
     part: Part<F>,
 ) -> Result<F::Output, F::Error>
-    requires { part.cuts + F.depth part.fold ≤ H.levels harts.old }
+    requires levels { part.cuts + F.depth part.fold ≤ H.levels harts.old }
+    requires ready { (index : ℕ) → part.low ≤ index → index < part.high → F.ready part.fold index }
     ensures output { IfOk result (λ output. F.gives part.fold part.low part.high output) }
     ensures error { IfErr result (λ error. F.fails part.fold part.low part.high error
         ⊎ F.Error.from_gives alloc_error error) }

@@ -1,5 +1,5 @@
 //! Loops over the elements of a slice, and over indices.
-ghost use Rattle.std.specs.Prelude.{◌≡◌, ◌≤◌, ◌<◌, ◌⊎◌, ℕ, length, IsOk, IfOk, IfErr, alloc_error};
+ghost use Rattle.std.specs.Prelude.{◌≡◌, ◌≤◌, ◌<◌, ◌⊎◌, ℕ, All, length, slice_index_or, IsOk, IfOk, IfErr, alloc_error};
 ghost use Rattle.std.specs.List.{AllZip};
 ghost use Rattle.task_loops.specs.Ranges.{between};
 
@@ -13,6 +13,9 @@ pub trait Map<A>: Copy {
     /// The image of an element.
     type Image: Drop;
 
+    /// What the function requires of an element. By default nothing.
+    ghost can: { Self → A → Type 0 } = { λ _ _. Unit {0} };
+
     /// The images that an element may have.
     ghost image: { Self → A → Self.Image → Type 0 };
 
@@ -22,6 +25,7 @@ pub trait Map<A>: Copy {
     ///
     /// An allocation failure.
     fn image_of(&self, alloc: Global, element: &A) -> Result<Self::Image, AllocError>
+        requires { can self.now element.now }
         ensures image { IfOk result (λ output. image self.now element.now output) }
         ensures error { IfErr result (λ error. error ≡ alloc_error) };
 }
@@ -71,6 +75,8 @@ impl<'p, A, M: Map<A>> Fold for Mapped<'p, A, M> {
 
     ghost depth = { λ _. 0 };
 
+    ghost ready = { λ fold index. (other : A) → M.can fold.map (slice_index_or fold.elements.now index other) };
+
     fn join(&self, front: Vec<M::Image>, back: Vec<M::Image>) -> Result<Vec<M::Image>, AllocError> {
         let mut images = front;
         let mut others = back;
@@ -94,6 +100,8 @@ impl<'p, A, M: Map<A>, V: TaskKind> Leaf<V> for Mapped<'p, A, M> {
         requires in_order { low ≤ high }
         requires within { high ≤ length self.now.elements.now }
         requires levels { 0 ≤ H.levels _harts.old }
+        requires ready { (index : ℕ) → low ≤ index → index < high
+            → (other : A) → M.can self.now.map (slice_index_or self.now.elements.now index other) }
         ensures output { IfOk result
             (λ output. AllZip (M.image self.now.map) (between low high self.now.elements.now) output.items) }
         ensures error { IfErr result (λ error. ⊥ ⊎ (error ≡ alloc_error)) }
@@ -110,6 +118,7 @@ fn images_of<A, M: Map<A>>(
     map: &M,
     elements: &[A],
 ) -> Result<Vec<M::Image>, AllocError>
+    requires { All (M.can map.now) elements.now }
     ensures output { IfOk result (λ output. AllZip (M.image map.now) elements.now output.items) }
     ensures error { IfErr result (λ error. error ≡ alloc_error) }
 {
@@ -137,7 +146,8 @@ pub fn run_map<'p, A, M: Map<A>, V: Holds<Part<Mapped<'p, A, M>>>, H: Harts<V>>(
     cuts: u8,
     shortest: usize,
 ) -> Result<Vec<M::Image>, AllocError>
-    requires { cuts ≤ H.levels harts.old }
+    requires levels { cuts ≤ H.levels harts.old }
+    requires can { All (M.can mapped.map) mapped.elements.now }
     ensures output { IfOk result
         (λ output. AllZip (M.image mapped.entry.map) mapped.entry.elements.now output.items) }
     ensures error { IfErr result (λ error. error ≡ alloc_error) }
@@ -150,11 +160,15 @@ pub fn run_map<'p, A, M: Map<A>, V: Holds<Part<Mapped<'p, A, M>>>, H: Harts<V>>(
 
 /// A body that runs at one index.
 pub trait Body: Copy {
+    /// What the body requires of an index. By default nothing.
+    ghost can: { Self → ℕ → Type 0 } = { λ _ _. Unit {0} };
+
     /// What holds of an index once the body has run there.
     ghost done: { Self → ℕ → Type 0 };
 
     /// Runs the body at an index.
     fn run_at(&self, index: usize)
+        requires { can self.now index }
         ensures { done self.now index };
 }
 
@@ -188,6 +202,8 @@ impl<B: Body> Fold for Each<B> {
 
     ghost depth = { λ _. 0 };
 
+    ghost ready = { λ fold index. B.can fold.body index };
+
     fn join(&self, _front: (), _back: ()) -> Result<(), AllocError>
         ensures output { IfOk result (λ _. (low middle high : ℕ) → low ≤ middle → middle ≤ high
             → ((index : ℕ) → low ≤ index → index < middle → B.done self.now.body index)
@@ -215,6 +231,7 @@ impl<B: Body, V: TaskKind> Leaf<V> for Each<B> {
         requires in_order { low ≤ high }
         requires within { high ≤ self.now.count }
         requires levels { 0 ≤ H.levels _harts.old }
+        requires ready { (index : ℕ) → low ≤ index → index < high → B.can self.now.body index }
         ensures output { IfOk result
             (λ _. (index : ℕ) → low ≤ index → index < high → B.done self.now.body index) }
         ensures error { IfErr result (λ error. error ≡ alloc_error) }
@@ -248,7 +265,8 @@ pub fn for_each<B: Body, V: Holds<Part<Each<B>>>, H: Harts<V>>(
     cuts: u8,
     shortest: usize,
 ) -> Result<(), AllocError>
-    requires { cuts ≤ H.levels harts.old }
+    requires levels { cuts ≤ H.levels harts.old }
+    requires can { (index : ℕ) → index < each.count → B.can each.body index }
     ensures done { IfOk result (λ _. (index : ℕ) → index < each.count → B.done each.body index) }
     ensures error { IfErr result (λ error. error ≡ alloc_error) }
     ensures levels { H.levels harts.new ≡ H.levels harts.old }

@@ -330,7 +330,8 @@ impl<'c, T: TaskKind, R: Observer, B: Naming> Hart<'c, T, R, B> {
     ) -> Result<T::Output, T::Error>
     where
         T: Task,
-        requires { T.depth task ≤ H.levels harts.old }
+        requires depth { T.depth task ≤ H.levels harts.old }
+        requires ready { T.ready task }
         ensures output { IfOk result (λ output. T.gives task output) }
         ensures error { IfErr result
             (λ error. T.fails task error ⊎ T.Error.from_gives alloc_error error) }

@@ -38,6 +38,7 @@ pub trait Levels<T: Task, R: Observer, B: Naming> {
         task: T,
     ) -> Result<T::Output, T::Error>
         requires depth { T.depth task ≤ levels }
+        requires ready { T.ready task }
         requires levels { levels ≤ count }
         ensures output { IfOk result (λ output. T.gives task output) }
         ensures error { IfErr result
@@ -83,6 +84,7 @@ impl<T: Task, R: Observer, B: Naming> Levels<T, R, B> for NoLevel {
         task: T,
     ) -> Result<T::Output, T::Error>
         requires depth { T.depth task ≤ _levels }
+        requires ready { T.ready task }
         requires levels { _levels ≤ 0 }
         ensures output { IfOk result (λ output. T.gives task output) }
         ensures error { IfErr result
@@ -124,6 +126,7 @@ impl<T: Task, R: Observer, B: Naming, L: Levels<T, R, B>> Levels<T, R, B> for On
         task: T,
     ) -> Result<T::Output, T::Error>
         requires depth { T.depth task ≤ levels }
+        requires ready { T.ready task }
         requires levels { levels ≤ min 255 (L.count + 1) }
         ensures output { IfOk result (λ output. T.gives task output) }
         ensures error { IfErr result
@@ -180,7 +183,8 @@ impl<'x, 'c: 'x, T: Task, R: Observer, B: Naming, L: Levels<T, R, B>> Harts<T>
     ghost levels = { λ _. min 255 (L.count + 1) };
 
     fn fork_join(&mut self, alloc: Global, tasks: Vec<T>) -> Result<Vec<T::Output>, T::Error>
-        requires { All (λ task. T.depth task < min 255 (L.count + 1)) tasks.items }
+        requires depth { All (λ task. T.depth task < min 255 (L.count + 1)) tasks.items }
+        requires ready { All T.ready tasks.items }
         ensures outputs { IfOk result (λ outputs. AllZip T.gives tasks.items outputs.items) }
         ensures error { IfErr result (λ error. FirstFailure T.gives T.fails tasks.items error
             ⊎ T.Error.from_gives alloc_error error) }
@@ -198,7 +202,8 @@ fn fork_join_on<T: Task, R: Observer, B: Naming, L: Levels<T, R, B>>(
     hart: &Hart<'_, T, R, B>,
     tasks: Vec<T>,
 ) -> Result<Vec<T::Output>, T::Error>
-    requires { All (λ task. T.depth task ≤ L.count) tasks.items }
+    requires depth { All (λ task. T.depth task ≤ L.count) tasks.items }
+    requires ready { All T.ready tasks.items }
     ensures outputs { IfOk result (λ outputs. AllZip T.gives tasks.items outputs.items) }
     ensures error { IfErr result (λ error. FirstFailure T.gives T.fails tasks.items error
         ⊎ T.Error.from_gives alloc_error error) }
@@ -229,7 +234,8 @@ fn in_order_on<T: Task, R: Observer, B: Naming, L: Levels<T, R, B>>(
     hart: &Hart<'_, T, R, B>,
     tasks: Vec<T>,
 ) -> Result<Vec<T::Output>, T::Error>
-    requires { All (λ task. T.depth task ≤ L.count) tasks.items }
+    requires depth { All (λ task. T.depth task ≤ L.count) tasks.items }
+    requires ready { All T.ready tasks.items }
     ensures outputs { IfOk result (λ outputs. AllZip T.gives tasks.items outputs.items) }
     ensures error { IfErr result (λ error. FirstFailure T.gives T.fails tasks.items error
         ⊎ T.Error.from_gives alloc_error error) }
@@ -252,6 +258,7 @@ fn shared_site<T: Task>(
 ) -> Result<Arc<Site<T>, Global>, AllocError>
     requires some { 0 < length tasks.items }
     requires shallow { All (λ task. T.depth task ≤ levels) tasks.items }
+    requires ready { All T.ready tasks.items }
     ensures { IfOk result (λ site. arc_value site ≡ (tasks.items, levels, share)) }
 {
     let site = Site::new(alloc, tasks, levels, share)?;

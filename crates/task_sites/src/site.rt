@@ -55,6 +55,7 @@ impl<T: TaskKind> Site<T> {
     pub fn new(alloc: Global, tasks: Vec<T>, levels: u8, share: u8) -> Result<Site<T>, AllocError>
         requires some { 0 < length tasks.items }
         requires shallow { All (λ task. T.depth task ≤ levels) tasks.items }
+        requires ready { All T.ready tasks.items }
         ensures { IfOk result (λ site. site ≡ (tasks.items, levels, share)) }
     {
         let count = tasks.len() as u64;

@@ -1,6 +1,7 @@
 -- Each step keeps the invariant of a table of tasks.
-use Rattle.std.proofs.Common.{◌≡◌, ◌≢◌, ℕ, zero, suc, ◌<◌, ◌≤◌, ◌==◌, ◌++◌, ◌⊎◌, List, [], ◌∷◌, map, replicate, get_or, set, sym, refl, ap, ◌∙◌, subst, arith, length, length-set, get_or-set_same, inl, inr, ⊎_elim}
+use Rattle.std.proofs.Common.{◌≡◌, ◌≢◌, ℕ, zero, suc, ◌<◌, ◌≤◌, ◌==◌, ◌++◌, ◌⊎◌, List, [], ◌∷◌, All, map, replicate, get_or, set, sym, refl, ap, ◌∙◌, subst, arith, length, length-set, get_or-set_same, inl, inr, ⊎_elim}
 use Rattle.std.proofs.lemmas.List.{get_or-set_other, length-map, length-replicate}
+use Rattle.std.proofs.lemmas.List.Elements.{All-head, All-tail}
 use mathlib.Core.Logic.{dite}
 use mathlib.Core.Option.{Option, some, none, some-injective, some-ne-none}
 use native.Mathlib.Decide.{ℕ_discrete}
@@ -34,6 +35,12 @@ within : {A : Type 0} (l : List A) (i : ℕ) (a : A) → get_elem? l i ≡ some 
 within [] i a e = absurd (some-ne-none a (sym e))
 within (x ∷ xs) zero a e = omega arith
 within (x ∷ xs) (suc i) a e = let h = within xs i a e in omega arith
+
+-- What holds of all elements holds of the element at a place.
+at_place : {A : Type 0} (P : A → Type 0) (l : List A) (i : ℕ) (a : A) → get_elem? l i ≡ some a → All P l → P a
+at_place P [] i a e h = absurd (some-ne-none a (sym e))
+at_place P (x ∷ xs) zero a e h = subst P (some-injective x a e) (All-head P x xs h)
+at_place P (x ∷ xs) (suc i) a e h = at_place P xs i a e (All-tail P x xs h)
 
 -- An element of a longer list.
 at_cons : {A : Type 0} (x : A) (xs : List A) (y : A) (k : ℕ) → get_elem? (x ∷ xs) k ≡ some y → (x ≡ y) ⊎ Has xs y
@@ -104,9 +111,9 @@ module _ {K R : Type 0} where
     got = some_longer got_of views w;
   }
 
-module _ {T R K : Type 0} (ends : T → R → Type 0) (list_of : K → List T) (key : K) where
+module _ {T R K : Type 0} (ready : T → Type 0) (ends : T → R → Type 0) (list_of : K → List T) (key : K) where
   stands_on : (views new : List (SeatView K R)) → Grew views new → (i : ℕ) (task : T) (n : ℕ) (home : Option (Option (TaskSlot T R)))
-      → StandsAt ends views i task n home → StandsAt ends new i task n home
+      → StandsAt ready ends views i task n home → StandsAt ready ends new i task n home
   stands_on views new g i task n home h = (
     h.0,
     (λ z. g.took i (h.1 z)),
@@ -115,13 +122,13 @@ module _ {T R K : Type 0} (ends : T → R → Type 0) (list_of : K → List T) (
   )
 
   -- A step that changes the word and the slot of one task, and the view of one seat.
-  stays : (s : State (TaskSlot T R) (SeatView K R)) → TasksStand ends key (list_of key) s → (id i m : ℕ) (v u : SeatView K R)
+  stays : (s : State (TaskSlot T R) (SeatView K R)) → TasksStand ready ends key (list_of key) s → (id i m : ℕ) (v u : SeatView K R)
       → get_elem? s.views id ≡ some v → Shows v u
       → i < length (list_of key) → (get_or {A = ℕ} s.words i 0 ≢ 0 → m ≢ 0) → (2 ≤ get_or {A = ℕ} s.words i 0 → 2 ≤ m) → IsSeatView key (set s.words i m) (set s.views id u) u
       → (homes : List (Option (TaskSlot T R))) → length homes ≡ length s.homes
       → ((j : ℕ) → j ≢ i → get_elem? homes j ≡ get_elem? s.homes j)
-      → ((task : T) → get_elem? (list_of key) i ≡ some task → StandsAt ends (set s.views id u) i task m (get_elem? homes i))
-      → TasksStand ends key (list_of key) record { words = set s.words i m; homes = homes; views = set s.views id u }
+      → ((task : T) → get_elem? (list_of key) i ≡ some task → StandsAt ready ends (set s.views id u) i task m (get_elem? homes i))
+      → TasksStand ready ends key (list_of key) record { words = set s.words i m; homes = homes; views = set s.views id u }
   stays s h id i m v u seen more at rise rise2 own homes same others here =
       let room : i < length s.words = omega (arith, h.0) in
       let g : Grew s.views (set s.views id u) = grows s.views id v u seen more in (
@@ -141,18 +148,18 @@ module _ {T R K : Type 0} (ends : T → R → Type 0) (list_of : K → List T) (
             (λ is.
             let e' : get_elem? (list_of key) i ≡ some task = subst (λ (n : ℕ). get_elem? (list_of key) n ≡ some task) is e in
             let w : get_or {A = ℕ} (set s.words i m) i 0 ≡ m = get_or-set_same s.words i m 0 room in
-            let k : StandsAt ends (set s.views id u) i task (get_or {A = ℕ} (set s.words i m) i 0) (get_elem? homes i) = subst (λ (n : ℕ). StandsAt ends (set s.views id u) i task n (get_elem? homes i)) (sym w) (here task e') in
-            subst (λ (n : ℕ). StandsAt ends (set s.views id u) n task (get_or {A = ℕ} (set s.words i m) n 0) (get_elem? homes n)) (sym is) k)
+            let k : StandsAt ready ends (set s.views id u) i task (get_or {A = ℕ} (set s.words i m) i 0) (get_elem? homes i) = subst (λ (n : ℕ). StandsAt ready ends (set s.views id u) i task n (get_elem? homes i)) (sym w) (here task e') in
+            subst (λ (n : ℕ). StandsAt ready ends (set s.views id u) n task (get_or {A = ℕ} (set s.words i m) n 0) (get_elem? homes n)) (sym is) k)
             (λ other.
             let k = stands_on s.views (set s.views id u) g j task (get_or {A = ℕ} s.words j 0) (get_elem? s.homes j) (h.3 j task e) in
-            let k' : StandsAt ends (set s.views id u) j task (get_or {A = ℕ} (set s.words i m) j 0) (get_elem? s.homes j) = subst (λ (n : ℕ). StandsAt ends (set s.views id u) j task n (get_elem? s.homes j)) (sym (get_or-set_other s.words i j m 0 other)) k in
-            subst (λ (o : Option (Option (TaskSlot T R))). StandsAt ends (set s.views id u) j task (get_or {A = ℕ} (set s.words i m) j 0) o) (sym (others j other)) k')),
+            let k' : StandsAt ready ends (set s.views id u) j task (get_or {A = ℕ} (set s.words i m) j 0) (get_elem? s.homes j) = subst (λ (n : ℕ). StandsAt ready ends (set s.views id u) j task n (get_elem? s.homes j)) (sym (get_or-set_other s.words i j m 0 other)) k in
+            subst (λ (o : Option (Option (TaskSlot T R))). StandsAt ready ends (set s.views id u) j task (get_or {A = ℕ} (set s.words i m) j 0) o) (sym (others j other)) k')),
       )
 
   -- A step that only reads the word of the task at i.
-  looks : (s : State (TaskSlot T R) (SeatView K R)) → TasksStand ends key (list_of key) s → (id i : ℕ) (v : SeatView K R)
+  looks : (s : State (TaskSlot T R) (SeatView K R)) → TasksStand ready ends key (list_of key) s → (id i : ℕ) (v : SeatView K R)
       → get_elem? s.views id ≡ some v → i < length (list_of key)
-      → TasksStand ends key (list_of key) record { words = set s.words i (get_or {A = ℕ} s.words i 0); homes = s.homes; views = set s.views id (looked v i (get_or {A = ℕ} s.words i 0)) }
+      → TasksStand ready ends key (list_of key) record { words = set s.words i (get_or {A = ℕ} s.words i 0); homes = s.homes; views = set s.views id (looked v i (get_or {A = ℕ} s.words i 0)) }
   looks s h id i v seen at =
       let n : ℕ = get_or {A = ℕ} s.words i 0 in
       let room : i < length s.words = omega (arith, h.0) in
@@ -165,13 +172,13 @@ module _ {T R K : Type 0} (ends : T → R → Type 0) (list_of : K → List T) (
       s.homes refl (λ j other. refl) (λ task w. stands_on s.views (set s.views id u) g i task n (get_elem? s.homes i) (h.3 i task w))
 
   pub claim_moves : (slots id i : ℕ) (me : Me (TaskSlot T R) (SeatView K R)) → me.0.tasks ≡ key → i < length (list_of key)
-      → Allows (TasksStand ends key (list_of key)) slots id me i (λ n. either (n == 0) 1 n) (Claims (list_of me.0.tasks) me i)
+      → Allows (TasksStand ready ends key (list_of key)) slots id me i (λ n. either (n == 0) 1 n) (Claims ready (list_of me.0.tasks) me i)
   claim_moves slots id i me e at s h wide seen small =
       let n : ℕ = get_or {A = ℕ} s.words i 0 in
       let room : i < length s.words = omega (arith, h.0) in
       let old = h.2 id me.0 seen in
       exchanged n 0 1
-      (λ m. (w : SeatView K R) × (a : Act (TaskSlot T R)) × Valid s.homes me.1 a × TasksStand ends key (list_of key) (stepped s i m id me.1 w a) × Claims (list_of me.0.tasks) me i n (w, carried_after me.1 a))
+      (λ m. (w : SeatView K R) × (a : Act (TaskSlot T R)) × Valid s.homes me.1 a × TasksStand ready ends key (list_of key) (stepped s i m id me.1 w a) × Claims ready (list_of me.0.tasks) me i n (w, carried_after me.1 a))
       (λ free.
       let t = there (list_of key) i at in
       let k = (h.3 i t.0 t.1).0 free in
@@ -180,12 +187,12 @@ module _ {T R K : Type 0} (ends : T → R → Type 0) (list_of : K → List T) (
       let g : Grew s.views (set s.views id u) = grows s.views id me.0 u seen more in (
         u,
         takes i (Waits t.0),
-        k,
+        k.0,
         stays s h id i 1 me.0 u seen more at (λ z. absurd (z free)) (λ z. absurd (omega (arith, free)))
             (old.0, (λ z. absurd (z refl)), (λ x q. still (λ p. 2 ≤ p) s.words i 1 room (λ z. absurd (omega (arith, free))) x.0 (old.2 x q)), (λ x q. g.gave x (old.3 x q)))
             (set s.homes i none) (length-set s.homes i none) (λ j other. set_else s.homes i j none other)
             (λ task w. ((λ z. absurd (omega arith)), (λ z. (id, u, set_here s.views id u (within s.views id me.0 seen), (0, refl))), (λ z. absurd (omega arith)), (λ z. absurd (omega arith)))),
-        ((refl, refl, refl), (λ z. (t.0, subst (λ v. get_elem? (list_of v) i ≡ some t.0) (sym e) t.1, refl, refl)), (λ z. absurd (z free))),
+        ((refl, refl, refl), (λ z. (t.0, subst (λ v. get_elem? (list_of v) i ≡ some t.0) (sym e) t.1, k.1, refl, refl)), (λ z. absurd (z free))),
       ))
       (λ taken. (
         looked me.0 i n,
@@ -196,13 +203,13 @@ module _ {T R K : Type 0} (ends : T → R → Type 0) (list_of : K → List T) (
       ))
 
   pub collect_moves : (slots id i : ℕ) (me : Me (TaskSlot T R) (SeatView K R)) → me.0.tasks ≡ key → i < length (list_of key)
-      → Allows (TasksStand ends key (list_of key)) slots id me i (λ n. either (n == 2) 3 n) (Collects ends (list_of me.0.tasks) me i)
+      → Allows (TasksStand ready ends key (list_of key)) slots id me i (λ n. either (n == 2) 3 n) (Collects ends (list_of me.0.tasks) me i)
   collect_moves slots id i me e at s h wide seen small =
       let n : ℕ = get_or {A = ℕ} s.words i 0 in
       let room : i < length s.words = omega (arith, h.0) in
       let old = h.2 id me.0 seen in
       exchanged n 2 3
-      (λ m. (w : SeatView K R) × (a : Act (TaskSlot T R)) × Valid s.homes me.1 a × TasksStand ends key (list_of key) (stepped s i m id me.1 w a) × Collects ends (list_of me.0.tasks) me i n (w, carried_after me.1 a))
+      (λ m. (w : SeatView K R) × (a : Act (TaskSlot T R)) × Valid s.homes me.1 a × TasksStand ready ends key (list_of key) (stepped s i m id me.1 w a) × Collects ends (list_of me.0.tasks) me i n (w, carried_after me.1 a))
       (λ ended.
       let t = there (list_of key) i at in
       let k = (h.3 i t.0 t.1).2 ended in
@@ -235,9 +242,9 @@ module _ {T R K : Type 0} (ends : T → R → Type 0) (list_of : K → List T) (
 
   pub give_moves : (slots id i : ℕ) (me : Me (TaskSlot T R) (SeatView K R)) (v : SeatView K R) (outcome : R) (held : List (ℕ × TaskSlot T R)) → me ≡ (v, (i, Ended outcome) ∷ held) → i < length (list_of key)
       → ((task : T) → get_elem? (list_of key) i ≡ some task → ends task outcome)
-      → Allows (TasksStand ends key (list_of key)) slots id me i (λ _. 2) (λ _ after. Gives me i after)
+      → Allows (TasksStand ready ends key (list_of key)) slots id me i (λ _. 2) (λ _ after. Gives me i after)
   give_moves slots id i me v outcome held e at ok =
-      subst (λ (x : Me (TaskSlot T R) (SeatView K R)). Allows (TasksStand ends key (list_of key)) slots id x i (λ _. 2) (λ _ after. Gives x i after)) (sym e)
+      subst (λ (x : Me (TaskSlot T R) (SeatView K R)). Allows (TasksStand ready ends key (list_of key)) slots id x i (λ _. 2) (λ _ after. Gives x i after)) (sym e)
       (λ s h wide seen small.
       let room : i < length s.words = omega (arith, h.0) in
       let old = h.2 id v seen in
@@ -262,7 +269,7 @@ module _ {T R K : Type 0} (ends : T → R → Type 0) (list_of : K → List T) (
         (λ other is. let stored : R → Me (TaskSlot T R) (SeatView K R) = λ o. (gave_one v i o, held) in ap stored (same_outcome i outcome other held held is)),
       ))
 
-  pub sits : (slots : ℕ) → Enters (TasksStand ends key (list_of key)) slots 0 (λ n w. (w.tasks ≡ key) × (w.took ≡ []) × (w.gave ≡ []) × (w.got ≡ []))
+  pub sits : (slots : ℕ) → Enters (TasksStand ready ends key (list_of key)) slots 0 (λ n w. (w.tasks ≡ key) × (w.took ≡ []) × (w.gave ≡ []) × (w.got ≡ []))
   sits slots s h wide small =
       let w : SeatView K R = record { tasks = key; place = 0; found = get_or {A = ℕ} s.words 0 0; took = []; gave = []; got = [] } in
       let g : Grew s.views (s.views ++ w ∷ []) = lasts s.views w in
@@ -280,19 +287,22 @@ module _ {T R K : Type 0} (ends : T → R → Type 0) (list_of : K → List T) (
         (refl, refl, refl, refl),
       )
 
-  pub opens : (words : List ℕ) (slots : List (TaskSlot T R)) → words ≡ replicate (length (list_of key)) 0 → slots ≡ map (λ task. Waits task) (list_of key)
-      → TasksStand ends key (list_of key) (opening words slots record { tasks = key; place = 0; found = 0; took = []; gave = []; got = [] })
-  opens words slots ew es =
+  pub opens : (words : List ℕ) (slots : List (TaskSlot T R)) → All ready (list_of key) → words ≡ replicate (length (list_of key)) 0 → slots ≡ map (λ task. Waits task) (list_of key)
+      → TasksStand ready ends key (list_of key) (opening words slots record { tasks = key; place = 0; found = 0; took = []; gave = []; got = [] })
+  opens words slots all ew es =
       let first : SeatView K R = record { tasks = key; place = 0; found = 0; took = []; gave = []; got = [] } in
       let zs : List ℕ = replicate (length (list_of key)) 0 in
-      subst (λ (ws : List ℕ). TasksStand ends key (list_of key) (opening ws slots first)) (sym ew)
-      (subst (λ (xs : List (TaskSlot T R)). TasksStand ends key (list_of key) (opening zs xs first)) (sym es) (
+      subst (λ (ws : List ℕ). TasksStand ready ends key (list_of key) (opening ws slots first)) (sym ew)
+      (subst (λ (xs : List (TaskSlot T R)). TasksStand ready ends key (list_of key) (opening zs xs first)) (sym es) (
         length-replicate {A = ℕ} (length (list_of key)) 0,
         length-map (map (λ task. Waits task) (list_of key)) some ∙ length-map (list_of key) (λ task. Waits task),
         (λ id v e. subst (λ (x : SeatView K R). IsSeatView key zs (first ∷ []) x) (sym (one_only first v id e)) (refl, (λ z. absurd (z refl)), (λ x q. absurd (some-ne-none x (sym q.1))), (λ x q. absurd (some-ne-none x (sym q.1))))),
         (λ i task e.
             let none_claimed : get_or {A = ℕ} zs i 0 ≡ 0 = zeros (length (list_of key)) i in (
-              (λ z. at_map some (map (λ task. Waits task) (list_of key)) i (Waits task) (at_map (λ task. Waits task) (list_of key) i task e)),
+              (λ z. (
+                at_map some (map (λ task. Waits task) (list_of key)) i (Waits task) (at_map (λ task. Waits task) (list_of key) i task e),
+                at_place ready (list_of key) i task e all,
+              )),
               (λ z. absurd (omega (arith, none_claimed))),
               (λ z. absurd (omega (arith, none_claimed))),
               (λ z. absurd (omega (arith, none_claimed))),

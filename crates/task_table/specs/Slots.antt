@@ -62,28 +62,28 @@ module _ {K R : Type 0} where
       × ((taken : ℕ × R) → Has v.got taken → SomeHas gave_of views taken)
 
 module _ {T R K : Type 0} where
-  -- The position of the task at i, whose word is n: a waiting task is in its slot, and no task was lost. If the word is 1, some
-  -- seat has claimed the task. If it is 2, the slot has an outcome of the task, which some seat stored. If it is more, some seat
+  -- The position of the task at i, whose word is n: a waiting task is in its slot and ready to run, and no task was lost. If the
+  -- word is 1, some seat has claimed the task. If it is 2, the slot has an outcome of the task, which some seat stored. If it is more, some seat
   -- has collected the outcome.
-  abbrev pub StandsAt : (T → R → Type 0) → List (SeatView K R) → ℕ → T → ℕ → Option (Option (TaskSlot T R)) → Type 0
-  StandsAt ends views i task n home =
-      (n ≡ 0 → home ≡ some (some (Waits task)))
+  abbrev pub StandsAt : (T → Type 0) → (T → R → Type 0) → List (SeatView K R) → ℕ → T → ℕ → Option (Option (TaskSlot T R)) → Type 0
+  StandsAt ready ends views i task n home =
+      (n ≡ 0 → (home ≡ some (some (Waits task))) × ready task)
       × (n ≡ 1 → SomeHas took_of views i)
       × (n ≡ 2 → (outcome : R) × (home ≡ some (some (Ended outcome))) × ends task outcome × SomeHas gave_of views (i, outcome))
       × (2 < n → (outcome : R) × SomeHas got_of views (i, outcome))
 
   -- The invariant: the slots are those of these tasks, and each seat's view belongs to them.
-  abbrev pub TasksStand : (T → R → Type 0) → K → List T → State (TaskSlot T R) (SeatView K R) → Type 0
-  TasksStand ends key tasks s =
+  abbrev pub TasksStand : (T → Type 0) → (T → R → Type 0) → K → List T → State (TaskSlot T R) (SeatView K R) → Type 0
+  TasksStand ready ends key tasks s =
       (length s.words ≡ length tasks) × (length s.homes ≡ length tasks)
       × ((id : ℕ) (v : SeatView K R) → get_elem? s.views id ≡ some v → IsSeatView key s.words s.views v)
-      × ((i : ℕ) (task : T) → get_elem? tasks i ≡ some task → StandsAt ends s.views i task (slice_index s.words i) (get_elem? s.homes i))
+      × ((i : ℕ) (task : T) → get_elem? tasks i ≡ some task → StandsAt ready ends s.views i task (slice_index s.words i) (get_elem? s.homes i))
 
-  -- A claim of the task at i: if its word was 0, the seat has the task.
-  abbrev pub Claims : List T → Me (TaskSlot T R) (SeatView K R) → ℕ → ℕ → Me (TaskSlot T R) (SeatView K R) → Type 0
-  Claims tasks me i found after =
+  -- A claim of the task at i: if its word was 0, the seat has the task, which is ready to run.
+  abbrev pub Claims : (T → Type 0) → List T → Me (TaskSlot T R) (SeatView K R) → ℕ → ℕ → Me (TaskSlot T R) (SeatView K R) → Type 0
+  Claims ready tasks me i found after =
       ((after.0.tasks ≡ me.0.tasks) × (after.0.gave ≡ me.0.gave) × (after.0.got ≡ me.0.got))
-      × (found ≡ 0 → (task : T) × (get_elem? tasks i ≡ some task) × (after.1 ≡ (i, Waits task) ∷ me.1) × (after.0 ≡ took_one me.0 i))
+      × (found ≡ 0 → (task : T) × (get_elem? tasks i ≡ some task) × ready task × (after.1 ≡ (i, Waits task) ∷ me.1) × (after.0 ≡ took_one me.0 i))
       × (found ≢ 0 → (after.1 ≡ me.1) × (after.0 ≡ looked me.0 i found))
 
   -- An outcome is stored: the seat had it in place of the slot at i.

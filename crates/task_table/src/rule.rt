@@ -13,7 +13,7 @@ impl<T: TaskKind> TableRule<TaskSlot<T, Outcome<T>>, TaskView<T>, TaskList<T>> f
     ghost use Rattle.std.specs.Prelude.{alloc_error, []};
     ghost use Rattle.task_table.specs.Slots.{TasksStand, Ends};
 
-    ghost holds = { λ key. TasksStand (Ends T.gives T.fails (T.Error.from_gives alloc_error)) key key.value.items };
+    ghost holds = { λ key. TasksStand T.ready (Ends T.gives T.fails (T.Error.from_gives alloc_error)) key key.value.items };
 
     ghost first = { λ key. record { tasks = key; place = 0; found = 0; took = []; gave = []; got = [] } };
 }
@@ -28,12 +28,14 @@ impl<T, R> Play<TaskSlot<T, R>, SeatView<TaskList<T>, R>> for Sit {
 }
 
 /// The exchange by which a task is claimed.
-pub struct Claim;
+pub struct Claim<T> {
+    marker: PhantomData<T>,
+}
 
-impl<T, R> Play<TaskSlot<T, R>, SeatView<TaskList<T>, R>> for Claim {
+impl<T: TaskKind> Play<TaskSlot<T, Outcome<T>>, TaskView<T>> for Claim<T> {
     ghost use Rattle.task_table.specs.Slots.{Claims};
 
-    ghost then = { λ s me found after. Claims me.0.tasks.value.items me s.word found after };
+    ghost then = { λ s me found after. Claims T.ready me.0.tasks.value.items me s.word found after };
 }
 
 /// The store by which a hart stores an outcome.

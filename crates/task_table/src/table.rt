@@ -1,5 +1,5 @@
 //! The table of tasks.
-ghost use Rattle.std.specs.Prelude.{◌≡◌, ◌≢◌, ◌<◌, [], ◌∷◌, length, map, IfOk, MatchOption, Option, alloc_error};
+ghost use Rattle.std.specs.Prelude.{◌≡◌, ◌≢◌, ◌<◌, [], ◌∷◌, All, length, map, IfOk, MatchOption, Option, alloc_error};
 ghost use mathlib.Core.Option.{some};
 ghost use lib.ListN.{get_elem?};
 ghost use Rattle.atomic_table.specs.Table.{rest};
@@ -48,6 +48,7 @@ impl<T: TaskKind> TaskTable<T> {
     ///
     /// A word and a slot for each task, in two blocks.
     pub fn new(alloc: Global, tasks: Vec<T>) -> Result<TaskTable<T>, AllocError>
+        requires { All T.ready tasks.items }
         ensures { IfOk result (λ made. made.table.shared.key.value.items ≡ tasks.items) }
     {
         let count = tasks.len();
@@ -90,6 +91,7 @@ impl<T: TaskKind> TaskTable<T> {
         ensures task { MatchOption result (seat.new.me.1 ≡ seat.old.me.1)
             (λ task. (get_elem? self.now.table.shared.key.value.items place ≡ some task)
             × (seat.new.me.1 ≡ (place, TaskSlot.Out) ∷ seat.old.me.1)) }
+        ensures ready { MatchOption result (Unit {0}) T.ready }
         ensures taken { MatchOption result
             ((seat.new.me.0.place ≡ place) × (seat.new.me.0.found ≢ 0)) (λ _. Unit {0}) }
         ensures took { MatchOption result (seat.new.me.0.took ≡ seat.old.me.0.took)
@@ -100,7 +102,7 @@ impl<T: TaskKind> TaskTable<T> {
         let found = self
             .table
             .shared
-            .compare_exchange::<Claim>(seat, place, 0, 1);
+            .compare_exchange::<Claim<T>>(seat, place, 0, 1);
         if found == 0 {
             let TaskSlot::Waits(task) = self.table.shared.exchange(seat, place, TaskSlot::Out)
             else {

@@ -56,7 +56,8 @@ fn tasks_of<T: Task + Send, R: Threads + Wait + Sync>(
 where
     T::Output: Send,
     T::Error: Send,
-    requires { T.depth task ≤ levels }
+    requires depth { T.depth task ≤ levels }
+    requires ready { T.ready task }
 {
     let begun = AtomicU64::new(0);
     let handle = Counting { rt, begun: &begun };

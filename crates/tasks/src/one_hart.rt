@@ -25,7 +25,8 @@ impl<T: TaskKind> Harts<T> for Ground {
 
     // Why no task runs here: no task has a depth below 0, so the list is empty.
     fn fork_join(&mut self, alloc: Global, tasks: Vec<T>) -> Result<Vec<T::Output>, T::Error>
-        requires { All (λ task. T.depth task < 0) tasks.items }
+        requires depth { All (λ task. T.depth task < 0) tasks.items }
+        requires ready { All T.ready tasks.items }
         ensures outputs { IfOk result (λ outputs. AllZip T.gives tasks.items outputs.items) }
         ensures error { IfErr result (λ error. FirstFailure T.gives T.fails tasks.items error
             ⊎ T.Error.from_gives alloc_error error) }
@@ -40,7 +41,8 @@ impl<T: Task, H: Harts<T>> Harts<T> for Level<H> {
     ghost levels = { λ harts. H.levels harts.0 + 1 };
 
     fn fork_join(&mut self, alloc: Global, tasks: Vec<T>) -> Result<Vec<T::Output>, T::Error>
-        requires { All (λ task. T.depth task < H.levels self.old.0 + 1) tasks.items }
+        requires depth { All (λ task. T.depth task < H.levels self.old.0 + 1) tasks.items }
+        requires ready { All T.ready tasks.items }
         ensures outputs { IfOk result (λ outputs. AllZip T.gives tasks.items outputs.items) }
         ensures error { IfErr result (λ error. FirstFailure T.gives T.fails tasks.items error
             ⊎ T.Error.from_gives alloc_error error) }
@@ -65,7 +67,8 @@ pub fn in_order<T: Task, H: Harts<T>>(
     harts: &mut H,
     tasks: Vec<T>,
 ) -> Result<Vec<T::Output>, T::Error>
-    requires { All (λ task. T.depth task ≤ H.levels harts.old) tasks.items }
+    requires depth { All (λ task. T.depth task ≤ H.levels harts.old) tasks.items }
+    requires ready { All T.ready tasks.items }
     ensures outputs { IfOk result (λ outputs. AllZip T.gives tasks.items outputs.items) }
     ensures error { IfErr result (λ error. FirstFailure T.gives T.fails tasks.items error
         ⊎ T.Error.from_gives alloc_error error) }
@@ -90,7 +93,8 @@ pub fn in_order<T: Task, H: Harts<T>>(
 ///
 /// What the task allocates, and a list of outputs for each `fork_join`.
 pub fn run_alone<T: Task>(alloc: Global, task: T) -> Result<T::Output, T::Error>
-    requires { T.depth task ≤ 16 }
+    requires depth { T.depth task ≤ 16 }
+    requires ready { T.ready task }
     ensures output { IfOk result (λ output. T.gives task output) }
     ensures error { IfErr result
         (λ error. T.fails task error ⊎ T.Error.from_gives alloc_error error) }

@@ -23,6 +23,9 @@ pub trait TaskKind: Drop {
     /// How many levels of tasks may be inside a task: 0 if it runs no tasks, and otherwise more than the depth of each task that
     /// it runs. Mostly a field of the task, by which `run` decides whether it runs tasks.
     ghost depth: { Self → ℕ };
+
+    /// What a task requires to be run. By default nothing. A task that calls a closure requires what the closure requires.
+    ghost ready: { Self → Type 0 } = { λ _. Unit {0} };
 }
 
 /// How a task runs.
@@ -36,7 +39,8 @@ pub trait Task: TaskKind {
     ///
     /// An error of the task's own, or an allocation failure.
     fn run<H: Harts<Self>>(self, alloc: Global, harts: &mut H) -> Result<Self::Output, Self::Error>
-        requires { Self.depth self ≤ H.levels harts.old }
+        requires depth { Self.depth self ≤ H.levels harts.old }
+        requires ready { Self.ready self }
         ensures output { IfOk result (λ output. Self.gives self output) }
         ensures error { IfErr result
             (λ error. Self.fails self error ⊎ Self.Error.from_gives alloc_error error) }
@@ -63,7 +67,8 @@ pub trait Harts<T: TaskKind> {
     ///
     /// A list of the outputs, and on several harts a table of the tasks.
     fn fork_join(&mut self, alloc: Global, tasks: Vec<T>) -> Result<Vec<T::Output>, T::Error>
-        requires { All (λ task. T.depth task < levels self.old) tasks.items }
+        requires depth { All (λ task. T.depth task < levels self.old) tasks.items }
+        requires ready { All T.ready tasks.items }
         ensures outputs { IfOk result (λ outputs. AllZip T.gives tasks.items outputs.items) }
         ensures error { IfErr result (λ error. FirstFailure T.gives T.fails tasks.items error
             ⊎ T.Error.from_gives alloc_error error) }

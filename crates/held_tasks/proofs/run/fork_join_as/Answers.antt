@@ -1,13 +1,13 @@
-use Rattle.std.proofs.Common.{◌≡◌, ◌<◌, ◌∙◌, ℕ, List, All, sym, subst, inl, inr, ⊎_elim}
+use Rattle.std.proofs.Common.{◌<◌, ◌∙◌, All, sym, subst, inl, inr, ⊎_elim}
 use Rattle.std.specs.List.{AllZip}
 use Rattle.held_tasks.proofs.Held.{all_map, zip_map, first_held}
 use Rattle.held_tasks.proofs.run.fork_join_as.Goals as goal
 
-pub fork_join-requires : goal.fork_join-requires
-fork_join-requires g c =
+pub fork_join-requires-clause-depth : goal.fork_join-requires-clause-depth
+fork_join-requires-clause-depth g c =
     let n = g.H.Harts.levels c.args.harts.now in
     subst (All (λ v. g.V.TaskKind.depth v < n)) (sym c.in_ok-held.ensures.held)
-    (all_map g.V.Holds.held g.T.TaskKind.depth g.V.TaskKind.depth g.met.V.Holds.same_depth n c.args.tasks.items c.requires)
+    (all_map g.V.Holds.held g.T.TaskKind.depth g.V.TaskKind.depth g.met.V.Holds.same_depth n c.args.tasks.items c.requires.depth)
 
 pub own_outputs-requires : goal.own_outputs-requires
 own_outputs-requires g c = (

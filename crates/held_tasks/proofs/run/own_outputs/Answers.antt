@@ -1,4 +1,4 @@
-use Rattle.std.proofs.Common.{◌≡◌, ◌<◌, ℕ, List, sym, subst, ap, length, ◌∙◌, arith}
+use Rattle.std.proofs.Common.{◌≡◌, sym, subst, ap, length, ◌∙◌, arith}
 use Rattle.std.specs.Vec.Iter.{into_iter_items, into_iter_len}
 use Rattle.held_tasks.proofs.Held.{starts, steps, next_held, ends, none_of}
 use Rattle.held_tasks.proofs.run.own_outputs.Goals as goal

@@ -1,4 +1,4 @@
-use Rattle.std.proofs.Common.{◌≡◌, ◌++◌, ℕ, List, [], length}
+use Rattle.std.proofs.Common.{◌≡◌, [], length}
 use Rattle.std.specs.Vec.Iter.{into_iter_items, into_iter_len}
 use Rattle.held_tasks.proofs.Held.{Left}
 use Rattle.held_tasks.proofs.run.own_outputs.Given as goal

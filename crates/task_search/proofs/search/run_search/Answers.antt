@@ -7,8 +7,8 @@ use Rattle.task_search.proofs.Tasks.{found_of_each, levels_below}
 use Rattle.task_search.proofs.Visits.{find_below}
 use Rattle.task_search.proofs.search.run_search.Goals as goal
 
-pub fork_join_as-requires : goal.fork_join_as-requires
-fork_join_as-requires g c =
+pub fork_join_as-requires-clause-depth : goal.fork_join_as-requires-clause-depth
+fork_join_as-requires-clause-depth g c =
     let fewer : c.args.task.levels - 1 < g.H.Harts.levels c.args.harts.now = search rules in
     levels_below c.args.task.wanted.now (c.args.task.levels - 1) (g.H.Harts.levels c.args.harts.now) c.as_slice.result.now c.in_ok-searches.searches.items c.in_ok-searches.ensures fewer
 

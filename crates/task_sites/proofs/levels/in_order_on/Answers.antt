@@ -9,11 +9,16 @@ run_task-requires-clause-depth g c =
     first_of (λ task. g.T.TaskKind.depth task ≤ g.L.Levels.count) c.in-Some.task (into_iter_items c.next.new.self) (into_iter_items c.tasks.rest) c.in-Some.ensures.items c.tasks.invariant.shallow in
     subst (λ (n : ℕ). g.T.TaskKind.depth c.in-Some.task ≤ n) (sym c.number.ensures) h
 
+pub run_task-requires-clause-ready : goal.run_task-requires-clause-ready
+run_task-requires-clause-ready g c =
+    first_of g.T.TaskKind.ready c.in-Some.task (into_iter_items c.next.new.self) (into_iter_items c.tasks.rest) c.in-Some.ensures.items c.tasks.invariant.ready
+
 pub tasks-preserved : goal.tasks-preserved
 tasks-preserved g c =
     let i = c.tasks.invariant in record {
       ran = one_more g.T.TaskKind.gives c.args.tasks.items c.tasks.outputs.items c.in-Some.task (into_iter_items c.next.new.self) (into_iter_items c.tasks.rest) c.in_ok-run_task.field-0 c.push_reserved.new.self.items c.in-Some.ensures.items c.in_ok-run_task.ensures.output c.push_reserved.ensures.items i.ran;
       shallow = others_of (λ task. g.T.TaskKind.depth task ≤ g.L.Levels.count) c.in-Some.task (into_iter_items c.next.new.self) (into_iter_items c.tasks.rest) c.in-Some.ensures.items i.shallow;
+      ready = others_of g.T.TaskKind.ready c.in-Some.task (into_iter_items c.next.new.self) (into_iter_items c.tasks.rest) c.in-Some.ensures.items i.ready;
       count = omega (arith, c.in-Some.ensures.len, i.count, ap length c.in-Some.ensures.items);
       room = omega (arith, c.in-Some.ensures.len, i.room, c.push_reserved.ensures.len, c.push_reserved.ensures.capacity);
     }

@@ -7,6 +7,7 @@ abbrev pub invariant-tasks : goal.invariant-tasks
 invariant-tasks g l = record {
   ran : Ran g.T.TaskKind.gives l.fn.tasks.items l.outputs.items (into_iter_items l.rest);
   shallow : All (λ task. g.T.TaskKind.depth task ≤ g.L.Levels.count) (into_iter_items l.rest);
+  ready : All g.T.TaskKind.ready (into_iter_items l.rest);
   count : into_iter_len l.rest ≡ length (into_iter_items l.rest);
   room : vec_len l.outputs + into_iter_len l.rest ≡ vec_capacity l.outputs;
 }

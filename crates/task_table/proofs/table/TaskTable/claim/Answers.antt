@@ -9,12 +9,12 @@ pub compare_exchange-found-requires : goal.compare_exchange-found-requires
 compare_exchange-found-requires g c = (
   c.requires.of,
   omega (arith, c.args.self.now.words, c.args.self.now.counts),
-  claim_moves (Ends g.T.TaskKind.gives g.T.TaskKind.fails (g.T.Error.From.from_gives alloc_error)) list_of c.args.self.now.table.shared.key _ _ _ c.args.seat.now.me c.requires.knows c.requires.place,
+  claim_moves g.T.TaskKind.ready (Ends g.T.TaskKind.gives g.T.TaskKind.fails (g.T.Error.From.from_gives alloc_error)) list_of c.args.self.now.table.shared.key _ _ _ c.args.seat.now.me c.requires.knows c.requires.place,
 )
 
 pub exchange-requires : goal.exchange-requires
 exchange-requires g c =
     let t = c.compare_exchange-found.ensures.2.1 c.if-found-eq0.true in (
       c.compare_exchange-found.ensures.0 ∙ c.requires.of,
-      (Waits t.0, t.2 ∙ ap (λ l. (c.args.place, Waits t.0) ∷ rest l) (sym t.2)),
+      (Waits t.0, t.3 ∙ ap (λ l. (c.args.place, Waits t.0) ∷ rest l) (sym t.3)),
     )

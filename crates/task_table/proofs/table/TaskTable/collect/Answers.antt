@@ -9,7 +9,7 @@ pub compare_exchange-found-requires : goal.compare_exchange-found-requires
 compare_exchange-found-requires g c = (
   c.requires.of,
   omega (arith, c.args.self.now.words, c.args.self.now.counts),
-  collect_moves (Ends g.T.TaskKind.gives g.T.TaskKind.fails (g.T.Error.From.from_gives alloc_error)) list_of c.args.self.now.table.shared.key _ _ _ c.args.seat.now.me c.requires.knows c.requires.place,
+  collect_moves g.T.TaskKind.ready (Ends g.T.TaskKind.gives g.T.TaskKind.fails (g.T.Error.From.from_gives alloc_error)) list_of c.args.self.now.table.shared.key _ _ _ c.args.seat.now.me c.requires.knows c.requires.place,
 )
 
 pub exchange-requires : goal.exchange-requires

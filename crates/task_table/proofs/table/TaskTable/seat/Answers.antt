@@ -6,5 +6,5 @@ use Rattle.task_table.proofs.table.TaskTable.seat.Goals as goal
 pub load_new_seat-requires : goal.load_new_seat-requires
 load_new_seat-requires g c = (
   omega (arith, c.requires, c.args.self.now.words, c.args.self.now.counts),
-  sits (Ends g.T.TaskKind.gives g.T.TaskKind.fails (g.T.Error.From.from_gives alloc_error)) list_of c.args.self.now.table.shared.key _,
+  sits g.T.TaskKind.ready (Ends g.T.TaskKind.gives g.T.TaskKind.fails (g.T.Error.From.from_gives alloc_error)) list_of c.args.self.now.table.shared.key _,
 )
