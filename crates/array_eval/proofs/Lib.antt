@@ -8,3 +8,4 @@ mod MarkLemmas
 pub mod CopyLemmas
 pub mod OverLemmas
 mod FixedLemmas
+mod ActLemmas

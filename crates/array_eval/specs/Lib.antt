@@ -10,3 +10,4 @@ pub mod EqualLaws
 pub mod Laws
 pub mod Copies
 pub mod Fixed
+pub mod Resolved

@@ -27,11 +27,23 @@ fn place_in(length: usize, index: &Expr, value: i64) -> usize
     ensures place { result ≡ place_of length (is_dynamic (expression_of index.now)) value }
     ensures small { result ≤ 2 ^ 63 }
 {
-    let cells = length as i64;
-    if 0 <= value && value < cells {
+    if 0 <= value && value < length as i64 {
         value as usize
-    } else if is_dynamic(index) {
-        value.rem_euclid(cells) as usize
+    } else {
+        place_outside(length, is_dynamic(index), value)
+    }
+}
+
+/// The position to which a value outside an array of this length leads.
+#[inline(never)]
+pub(crate) fn place_outside(length: usize, is_dynamic: bool, value: i64) -> usize
+    requires some { 0 < length }
+    requires small { length < 2 ^ 63 }
+    ensures place { result ≡ place_of length is_dynamic value }
+    ensures small { result ≤ 2 ^ 63 }
+{
+    if is_dynamic {
+        value.rem_euclid(length as i64) as usize
     } else {
         value.unsigned_abs() as usize
     }

@@ -88,6 +88,13 @@ impl<'s> FixedTurn<'s> {
         }
     }
 
+    /// Whether the value reads cells, apart from the one that is written.
+    pub(crate) fn reads_cells(self) -> bool {
+        match self {
+            FixedTurn::Sets { value, .. } | FixedTurn::Adds { value, .. } => is_dynamic(value),
+        }
+    }
+
     /// Runs one turn.
     fn run(self, layout: &Layout, turn: &Scope, store: &mut MarkedStore)
         ensures { store.new ≡ after_turn layout.now (vars_of turn.now) self.entry store.old }

@@ -41,6 +41,8 @@ struct First {
 /// 4,096.
 #[derive(Debug, Drop)]
 pub struct Layout<'p> {
+    // It allocates what a run resolves.
+    alloc: Global,
     arrays: &'p Arrays,
     // The first array of each slot, or nothing if there are few arrays.
     firsts: Vec<First>,
@@ -82,6 +84,7 @@ impl<'p> Layout<'p> {
         let cells = count_cells(arrays);
         let firsts = firsts_of(alloc, &arrays.declarations, cells as u16)?;
         Ok(Layout {
+            alloc,
             arrays,
             firsts,
             cells,
@@ -110,6 +113,11 @@ impl<'p> Layout<'p> {
             return First { number: 0, base: 0 };
         }
         self.firsts[slot(name)]
+    }
+
+    /// The allocator.
+    pub(crate) fn alloc(&self) -> Global {
+        self.alloc
     }
 
     /// The arrays themselves.

@@ -4,6 +4,7 @@
 //! and `MarkedStore`; the tests of `language_tests` run programs with it.
 #![tactic(auto)]
 
+mod acts;
 mod array_text;
 mod cells;
 mod copies;
@@ -15,6 +16,7 @@ mod members;
 mod overlay;
 mod page;
 mod paged;
+mod resolved;
 mod run;
 mod scope;
 mod store;

@@ -6,6 +6,7 @@ ghost use Rattle.array_meaning.specs.Work.{statement_work, sequence_work, branch
 ghost use Rattle.array_eval.specs.Traces.{noted, traced};
 ghost use Rattle.array_eval.specs.Views.{vars_of};
 
+use crate::acts::{acts_of, run_acts};
 use crate::cells::cell;
 use crate::fixed::FixedTurn;
 use crate::layout::Layout;
@@ -15,6 +16,11 @@ use crate::store::Store;
 use crate::value::evaluate;
 use array_tree::{Block, Blocks, Expr, Name, Program, Stmt};
 use std::alloc::{AllocError, Global};
+
+/// The least number of turns for which an assignment to one cell is resolved, if its value reads cells.
+///
+/// Why: resolving such an assignment costs as much as it saves in about a dozen turns.
+const MANY_TURNS: i64 = 16;
 
 /// The store with which a program ends on one thread, branches from left to right and phases one after another.
 ///
@@ -27,7 +33,7 @@ use std::alloc::{AllocError, Global};
 ///
 /// # Memory
 ///
-/// It allocates the layout, and a store with a copy of each written page.
+/// It allocates the layout, a store with a copy of each written page, and what `run_loop` allocates.
 #[tactic(auto, using(array_meaning::proofs::StepLemmas::length_after, crate::proofs::TraceLemmas::cells_after))]
 pub fn run_one(alloc: Global, program: &Program) -> Result<Store, AllocError>
     requires { AreSized (arrays_of (declarations_of program.now.arrays)) }
@@ -126,6 +132,11 @@ fn run_statement<'s>(
 }
 
 /// Runs a block once for each number from `low` to before `high`, with that number as the variable.
+///
+/// # Memory
+///
+/// For a block of assignments and at least 12 numbers it may allocate the block with its names resolved, and frees it before
+/// it returns. If an allocation fails, it runs the block as it is.
 #[cycle(run)]
 pub fn run_loop<'s>(
     layout: &Layout,
@@ -140,8 +151,32 @@ pub fn run_loop<'s>(
         (loop var.now low high (sequence_work (sequence_of body.now))
         (vars_of scope.now)) store.old }
 {
-    match FixedTurn::of(layout, body, var, high.saturating_sub(low), scope) {
-        Some(fixed) => fixed.run_all(layout, var, low, high, scope, store),
+    let turns = high.saturating_sub(low);
+    match FixedTurn::of(layout, body, var, turns, scope) {
+        Some(fixed) if turns < MANY_TURNS || !fixed.reads_cells() => {
+            fixed.run_all(layout, var, low, high, scope, store)
+        }
+        _ => run_resolved(layout, body, var, low, high, scope, store),
+    }
+}
+
+// Runs the turns of a loop, with the names of its body resolved if they can be.
+#[cycle(run)]
+fn run_resolved<'s>(
+    layout: &Layout,
+    body: &'s Block,
+    var: &'s Name,
+    low: i64,
+    high: i64,
+    scope: &'s Scope<'s>,
+    store: &mut MarkedStore,
+)
+    ensures { store.new ≡ traced layout.now
+        (loop var.now low high (sequence_work (sequence_of body.now))
+        (vars_of scope.now)) store.old }
+{
+    match acts_of(layout, body, var, high.saturating_sub(low), scope) {
+        Some(acts) => run_acts(&acts, low, high, store),
         None => run_turns(layout, body, var, low, high, scope, store),
     }
 }

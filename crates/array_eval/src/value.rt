@@ -43,8 +43,9 @@ pub fn is_dynamic(index: &Expr) -> bool
     }
 }
 
-// The value of an operator.
-fn apply(op: Op, a: i64, b: i64) -> i64
+/// The value of an operator.
+#[inline(always)]
+pub(crate) fn apply(op: Op, a: i64, b: i64) -> i64
     ensures { result ≡ applied op a b }
 {
     match op {
@@ -62,8 +63,8 @@ fn apply(op: Op, a: i64, b: i64) -> i64
     }
 }
 
-// The minus sign.
-fn negate(a: i64) -> i64
+/// The minus sign.
+pub(crate) fn negate(a: i64) -> i64
     ensures { result ≡ wrapping_minus a }
 {
     a.wrapping_neg()

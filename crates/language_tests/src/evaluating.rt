@@ -92,3 +92,66 @@ fn programs_end_with_these_arrays(rt: HostRuntime) -> Result<(), Fail> {
     }
     Ok(())
 }
+
+// Programs with loops of 11, 12 and more turns, and the array lines with which they end. Names are resolved from 12 turns on.
+const LOOPS: [(&str, &str); 9] = [
+    // The last turn divides by zero, and reduces a negative index.
+    (
+        "array a[3]; array n[11];
+        for i in 0..11 { n[i] = 100 / (10 - i); a[n[i] - 50] = i; }",
+        "a = 8 10 9\nn = 10 11 12 14 16 20 25 33 50 100 0\n",
+    ),
+    (
+        "array a[3]; array n[12];
+        for i in 0..12 { n[i] = 100 / (11 - i); a[n[i] - 50] = i; }",
+        "a = 9 11 10\nn = 9 10 11 12 14 16 20 25 33 50 100 0\n",
+    ),
+    // The last turn writes after the last cell.
+    (
+        "array a[10]; for i in 0..11 { a[i] = i * i; }",
+        "a = 0 1 4 9 16 25 36 49 64 81\n",
+    ),
+    (
+        "array a[11]; for i in 0..12 { a[i] = i * i; }",
+        "a = 0 1 4 9 16 25 36 49 64 81 100\n",
+    ),
+    // The first turn has a negative index, and the last turn reads after the last cell.
+    (
+        "array a[12]; array b[13];
+        for i in 0..12 { a[i - 1] = i; } for i in 0..13 { b[i] = 5 - b[i + 1]; }",
+        "a = 1 2 3 4 5 6 7 8 9 10 11 0\nb = 5 5 5 5 5 5 5 5 5 5 5 5 5\n",
+    ),
+    // The last turn wraps.
+    (
+        "array a[13];
+        for i in 0..13 { a[i] = (9223372036854775796 + i) / 4611686018427387904; }",
+        "a = 1 1 1 1 1 1 1 1 1 1 1 1 -2\n",
+    ),
+    // A turn uses the variable of an outer loop, numbers, and the minus sign.
+    (
+        "array a[12];
+        for j in 1..3 { for i in 0..12 { a[11 - i] = -(j * i) + 2 * 3; } }",
+        "a = -16 -14 -12 -10 -8 -6 -4 -2 0 2 4 6\n",
+    ),
+    // The inner of two loops with one variable, and an array with the name of a variable.
+    (
+        "array i[12]; for i in 0..2 { for i in 0..12 { i[i] = i[i] + i; } }",
+        "i = 0 2 4 6 8 10 12 14 16 18 20 22\n",
+    ),
+    // Each turn writes one cell, and reads others.
+    (
+        "array a[16]; array s[3]; s[1] = 1; s[2] = 3;
+        for i in 0..16 { a[i] = i - s[2]; s[a[i]] = s[a[i]] + 1; }
+        for i in 0..16 { s[0] = s[0] + a[i] * a[i]; }
+        for i in 0..40 { s[1] = s[1] + s[1]; }",
+        "a = -3 -2 -1 -1 -1 -1 -1 -1 -1 -1 -1 -1 -1 -1 -1 -1\ns = 28 2199023255552 17\n",
+    ),
+];
+
+#[test]
+fn long_loops_end_with_these_arrays(rt: HostRuntime) -> Result<(), Fail> {
+    for (text, expected) in LOOPS {
+        assert!(rt; ends_with(rt.alloc(), text, expected)?, "{text}");
+    }
+    Ok(())
+}

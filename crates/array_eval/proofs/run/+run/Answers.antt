@@ -1,10 +1,11 @@
-use Rattle.std.proofs.Common.{arith, ◌+ℤ◌, ◌<ℤ◌, pos, to_z, of_z, ◌+◌, drop, map, ap, sym, ◌∙◌, ◌≡◌, w64}
+use Rattle.std.proofs.Common.{arith, ◌+ℤ◌, ◌<ℤ◌, pos, to_z, of_z, ◌+◌, drop, map, ap, sym, subst, ◌∙◌, ◌≡◌, w64}
 use mir.Val.{SFits}
 use Rattle.std.proofs.lemmas.Int.{to_z-of_z, ints}
 use Rattle.array_tree.specs.Trees.{statement_of, sequence_of, sequence, sequences}
 use Rattle.array_meaning.specs.Work.{statement_work, sequence_work, branches_work, phases_work, loop}
 use Rattle.array_eval.proofs.TraceLemmas.{traced_followed_by}
 use Rattle.array_meaning.proofs.ThreadLemmas.{statements_left, branches_left, phases_left, turns_left}
+use Rattle.array_eval.specs.Resolved.{AreActsOf}
 use Rattle.array_eval.specs.Traces.{Trace, traced}
 use Rattle.array_eval.specs.Views.{vars_of}
 use Rattle.array_eval.proofs.run.+run.Goals as goal
@@ -58,3 +59,15 @@ run_phases-loop-phase-preserved t c =
     (c.run_loop.ensures ∙ ap (λ b. traced arrays (loop var low high (sequence_work (sequence_of b)) vars) c.loop-phase.store) c.phase-item.is)
     ∙ sym (phases_left Trace (traced arrays) (traced_followed_by arrays) items c.loop-phase.phase-index c.phase-item.result var low high vars c.loop-phase.store c.loop-phase-test.true)
     ∙ c.loop-phase.invariant
+
+pub run_resolved-returns-in-Some : goal.run_resolved-returns-in-Some
+run_resolved-returns-in-Some t c =
+    let arrays = c.args.layout.now in
+    let vars = vars_of c.args.scope.now in
+    let var = c.args.var.now in
+    let body = sequence_of c.args.body.now in
+    let before = c.args.store.now in
+    let are : AreActsOf arrays var vars c.deref.result.now body = subst (λ acts. AreActsOf arrays var vars acts body) (sym c.deref.ensures.value) c.in-Some.ensures in
+    c.run_acts.ensures arrays var vars body are
+    ∙ ap (λ low. traced arrays (loop var low (to_z w64 (of_z w64 c.args.high)) (sequence_work body) vars) before) (to_z-of_z w64 c.args.low c.ranges.low)
+    ∙ ap (λ high. traced arrays (loop var c.args.low high (sequence_work body) vars) before) (to_z-of_z w64 c.args.high c.ranges.high)
