@@ -1,4 +1,5 @@
 //! Why nothing was run, or why a run has no result.
+use array_tasks::{MOST_BYTES, TextError};
 use clap::Error;
 use clap::error::ErrorKind;
 use outside_io::NoWords;
@@ -18,6 +19,12 @@ pub enum DemoError {
     NotText,
     /// The option's value is not a number from the least to the most.
     NotInRange(&'static str, u64, u64),
+    /// Standard input can't be read.
+    NoInput,
+    /// Standard input has more bytes than a program's text may have.
+    TooLong,
+    /// Standard input spells no program that is accepted. The line reports why.
+    Refused(Vec<u8>),
     /// An allocation failed.
     OutOfMemory,
     /// The clock can't be read.
@@ -31,13 +38,16 @@ pub enum DemoError {
 }
 
 impl DemoError {
-    /// The exit status: 2 if nothing was run because of the words, else 1.
+    /// The exit status: 2 if nothing was run because of the words or the text of a program, else 1.
     pub fn status(&self) -> u8 {
         match self {
             DemoError::Words(_) => 2,
             DemoError::NoCommand => 2,
             DemoError::NotText => 2,
             DemoError::NotInRange(_, _, _) => 2,
+            DemoError::TooLong => 2,
+            DemoError::Refused(_) => 2,
+            DemoError::NoInput => 1,
             DemoError::OutOfMemory => 1,
             DemoError::NoClock => 1,
             DemoError::NotEnded => 1,
@@ -56,6 +66,10 @@ impl fmt::Display for DemoError {
             DemoError::NotInRange(name, least, most) => {
                 write!(f, "--{name} takes a number from {least} to {most}")
             }
+            DemoError::NoInput => write!(f, "standard input can't be read"),
+            DemoError::TooLong => write!(f, "the text has more than {MOST_BYTES} bytes"),
+            // Its line is printed alone.
+            DemoError::Refused(_) => Ok(()),
             DemoError::OutOfMemory => write!(f, "out of memory"),
             DemoError::NoClock => write!(f, "the clock can't be read"),
             DemoError::NotEnded => write!(f, "the harts did not begin or end their run"),
@@ -96,6 +110,18 @@ impl From<RunError<AllocError>> for DemoError {
             RunError::HartCount(_) => DemoError::NotInRange("harts", 1, 64),
             RunError::LevelCount(_) => DemoError::NotEnded,
             RunError::Task(_) => DemoError::OutOfMemory,
+        }
+    }
+}
+
+impl From<TextError> for DemoError {
+    fn from(error: TextError) -> DemoError {
+        match error {
+            TextError::TooLong => DemoError::TooLong,
+            TextError::Syntax(line) => DemoError::Refused(line),
+            TextError::Refused(line) => DemoError::Refused(line),
+            TextError::HartCount(_) => DemoError::NotInRange("harts", 1, 64),
+            TextError::OutOfMemory => DemoError::OutOfMemory,
         }
     }
 }

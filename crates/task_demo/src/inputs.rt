@@ -1,5 +1,8 @@
-//! The inputs of the runs, made from a seed, and the check sums.
+//! The inputs of the runs, made from a seed or read, and the check sums.
+use crate::error::DemoError;
+use array_tasks::MOST_BYTES;
 use std::alloc::{AllocError, Global};
+use std::io::Read;
 
 // The multiplier and the increment of Knuth's linear congruential generator MMIX.
 const MULTIPLIER: u64 = 6364136223846793005;
@@ -52,4 +55,21 @@ pub fn sum_of(numbers: &[u64], start: u64) -> u64 {
     numbers.iter().fold(start, |sum, number| {
         sum.wrapping_mul(MULTIPLIER).wrapping_add(*number)
     })
+}
+
+/// The text of a program. Of a longer text only one byte more than a program's text may have.
+///
+/// # Errors
+///
+/// `NoInput` if the text can't be read, or an allocation fails.
+///
+/// # Memory
+///
+/// The text.
+pub fn text_of<I: Read + Drop>(alloc: Global, input: I) -> Result<Vec<u8>, DemoError> {
+    let mut text = Vec::new(alloc);
+    match input.take(MOST_BYTES as u64 + 1).read_to_end(&mut text) {
+        Ok(_) => Ok(text),
+        Err(_) => Err(DemoError::NoInput),
+    }
 }

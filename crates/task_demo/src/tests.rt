@@ -1,12 +1,13 @@
-//! Check sums, compared with those that `tools/task_sums` prints, and words that are refused.
+//! Check sums, compared with those that `tools/task_sums` prints, programs with their lines, and words that are refused.
 use crate::error::DemoError;
-use crate::runs::run_demo;
-use crate::words::{Demo, Library, demo_of};
+use crate::runs::{Output, run_demo};
+use crate::words::{Demo, Library, Made, Work, demo_of};
 use std::alloc::{AllocError, Global};
 use std::sync::Wait;
 use std::test::Fail;
 use std::thread::Threads;
 use std::time::Clock;
+use task_trace::{Trace, chrome_trace};
 
 // Whether a run has this check sum on 1, 2, 4 and 16 harts.
 fn has_sum<R: Threads + Wait + Clock + Sync>(
@@ -19,16 +20,18 @@ fn has_sum<R: Threads + Wait + Clock + Sync>(
 ) -> bool {
     for harts in [1u8, 2, 4, 16] {
         let demo = Demo {
-            library,
-            count,
-            seed,
+            work: Work::Library(Made {
+                library,
+                count,
+                seed,
+            }),
             harts,
             trace: None,
         };
-        let Ok(ran) = run_demo(rt, alloc, &demo, None) else {
+        let Ok(ran) = run_demo(rt, alloc, &demo, b"", None) else {
             return false;
         };
-        if ran.sum != sum {
+        if ran.output != Output::Sum(sum) {
             return false;
         }
     }
@@ -112,9 +115,11 @@ fn words_are_read(rt: HostRuntime) -> Result<(), Fail> {
         "matrix --count 4000 --harts 64 --seed 18446744073709551615 --trace a.json",
     )?;
     let expected = Demo {
-        library: Library::Matrix,
-        count: 4000,
-        seed: u64::MAX,
+        work: Work::Library(Made {
+            library: Library::Matrix,
+            count: 4000,
+            seed: u64::MAX,
+        }),
         harts: 64,
         trace: Some(String::from_str(rt.alloc(), "a.json")?),
     };
@@ -156,12 +161,91 @@ fn words_without_a_form_are_refused(rt: HostRuntime) -> Result<(), Fail> {
         "sort --count 1 --seed 1 --harts 1 --harts 2",
         "sort --count 1 --seed 1 --harts 1 more",
         "sort --count 1 --seed 1 --harts 1 --trace",
+        "array --count 1 --harts 1",
+        "array",
     ] {
         let words = words_in(rt.alloc(), text)?;
         match demo_of(rt.alloc(), &words) {
             Err(DemoError::Words(_)) => {}
             _ => assert!(rt; false, "{text}"),
         }
+    }
+    Ok(())
+}
+
+// A team of two members in two phases, with an `if`.
+const PROGRAM: &[u8] =
+    b"array a[4];\nteam i in 0..4 by 2 { a[i] = i * i; } barrier { if a[i] > 3 { a[i] = 3; } }\n";
+
+// The run of a program on so many harts.
+fn on_harts(harts: u8) -> Demo {
+    Demo {
+        work: Work::Program,
+        harts,
+        trace: None,
+    }
+}
+
+#[test]
+fn programs_print_their_arrays(rt: HostRuntime) -> Result<(), Fail> {
+    for harts in [1u8, 4] {
+        match run_demo(&rt, rt.alloc(), &on_harts(harts), PROGRAM, None) {
+            Ok(ran) => {
+                let lines = Output::Lines(b"a = 0 1 3 3\n".to_vec(rt.alloc())?);
+                assert!(rt; ran.output == lines, "on {harts} harts");
+            }
+            Err(error) => assert!(rt; false, "{error}"),
+        }
+    }
+    Ok(())
+}
+
+#[test]
+fn a_traced_program_has_a_pair_of_events_for_each_job(rt: HostRuntime) -> Result<(), Fail> {
+    let Ok(trace) = Trace::new(&rt, rt.alloc(), 4) else {
+        return Err(Fail::new("no trace"));
+    };
+    let ran = run_demo(&rt, rt.alloc(), &on_harts(4), PROGRAM, Some(&trace));
+    assert!(rt; ran.is_ok());
+    let Ok(events) = trace.into_events(rt.alloc()) else {
+        return Err(Fail::new("no events"));
+    };
+    let text = chrome_trace(rt.alloc(), events.as_slice())?;
+    // The body, and two members in each of two phases.
+    assert_eq!(rt; text.as_str().matches("\"ph\":\"B\"").count(), 5);
+    assert_eq!(rt; text.as_str().matches("\"ph\":\"E\"").count(), 5);
+    Ok(())
+}
+
+#[test]
+fn programs_that_are_not_run_say_why(rt: HostRuntime) -> Result<(), Fail> {
+    for (text, wanted) in [
+        ("array a[2", "syntax: unexpected at byte 9\n"),
+        ("array a[0];", "refused: length 0 at line 1\n"),
+    ] {
+        let Err(error) = run_demo(&rt, rt.alloc(), &on_harts(2), text.as_bytes(), None) else {
+            return Err(Fail::new("the text ran"));
+        };
+        assert_eq!(rt; error.status(), 2, "{text}");
+        match &error {
+            DemoError::Refused(line) => assert_eq!(rt; line.as_slice(), wanted.as_bytes()),
+            _ => assert!(rt; false, "{text}: {error}"),
+        }
+    }
+    Ok(())
+}
+
+#[test]
+fn the_words_of_a_program_are_read(rt: HostRuntime) -> Result<(), Fail> {
+    let words = words_in(rt.alloc(), "array --harts 64 --trace a.json")?;
+    let expected = Demo {
+        work: Work::Program,
+        harts: 64,
+        trace: Some(String::from_str(rt.alloc(), "a.json")?),
+    };
+    match demo_of(rt.alloc(), &words) {
+        Ok(demo) => assert!(rt; demo == expected),
+        Err(error) => assert!(rt; false, "{error}"),
     }
     Ok(())
 }

@@ -10,7 +10,7 @@ use std::thread::Threads;
 use std::time::Clock;
 use task_trace::{Trace, chrome_trace};
 
-/// Runs a library on harts. If the words name a file, the file gets the trace of the run.
+/// Runs what the words request. If they name a file, the file gets the trace of the run.
 ///
 /// # Errors
 ///
@@ -23,12 +23,13 @@ pub fn run_traced<R: Threads + Wait + Clock + Files + Sync>(
     rt: &R,
     alloc: Global,
     demo: &Demo,
+    text: &[u8],
 ) -> Result<Ran, DemoError> {
     let Some(path) = &demo.trace else {
-        return run_demo(rt, alloc, demo, None);
+        return run_demo(rt, alloc, demo, text, None);
     };
     let trace = Trace::new(rt, alloc, demo.harts)?;
-    let ran = run_demo(rt, alloc, demo, Some(&trace))?;
+    let ran = run_demo(rt, alloc, demo, text, Some(&trace))?;
     let text = chrome_trace(alloc, trace.into_events(alloc)?.as_slice())?;
     match fs::write(rt, path.as_str(), text.as_bytes()) {
         Ok(()) => Ok(ran),

@@ -20,22 +20,38 @@ pub enum Library {
     Empty,
 }
 
-/// The run that the words request.
-#[derive(Debug, Drop, PartialEq)]
-pub struct Demo {
+/// A library, and the input that is made for it.
+#[derive(Clone, Copy, Debug, PartialEq)]
+pub struct Made {
     /// The library.
     pub library: Library,
     /// The number of numbers, of rows and columns, of rows, or of pairs.
     pub count: u32,
     /// The seed of the numbers.
     pub seed: u64,
+}
+
+/// What runs.
+#[derive(Clone, Copy, Debug, PartialEq)]
+pub enum Work {
+    /// A library, on an input that is made.
+    Library(Made),
+    /// The program of the array language whose text standard input has.
+    Program,
+}
+
+/// The run that the words request.
+#[derive(Debug, Drop, PartialEq)]
+pub struct Demo {
+    /// What runs.
+    pub work: Work,
     /// The number of harts, 1 to 64.
     pub harts: u8,
     /// The path of the file that gets the trace of the run.
     pub trace: Option<String>,
 }
 
-// The commands, each with its text in the help.
+// The commands on inputs that are made, each with its text in the help.
 const COMMANDS: [(&str, &str); 5] = [
     ("sort", "Sorts COUNT numbers, at most 100000000"),
     (
@@ -55,6 +71,9 @@ const COMMANDS: [(&str, &str); 5] = [
         "Runs COUNT pairs of empty tasks, at most 100000000",
     ),
 ];
+
+// The command of programs.
+const ARRAY: &str = "array";
 
 /// Reads the run that the words request.
 ///
@@ -84,24 +103,22 @@ fn commands<'a>(alloc: Global) -> Result<Command<'a>, AllocError> {
         .no_binary_name(true)
         .subcommand_required(true);
     for (name, about) in COMMANDS {
-        let command = with_options(alloc, name, about)?;
-        app = app.subcommand(command)?;
+        let bare = Command::new(alloc, name).about(about);
+        let sized = bare.arg(option(alloc, "count", "The size of the input").required(true))?;
+        let seeded = sized.arg(option(alloc, "seed", "The seed of the input").required(true))?;
+        app = app.subcommand(on_harts(alloc, seeded)?)?;
     }
-    Ok(app)
+    let array = Command::new(alloc, ARRAY).about(
+        "Runs the program of the array language that standard input has, and prints its arrays",
+    );
+    app.subcommand(on_harts(alloc, array)?)
 }
 
-// A command with its options.
-fn with_options<'a>(
-    alloc: Global,
-    name: &'a str,
-    about: &'a str,
-) -> Result<Command<'a>, AllocError> {
-    let bare = Command::new(alloc, name).about(about);
-    let first = bare.arg(option(alloc, "count", "The size of the input").required(true))?;
-    let second = first.arg(option(alloc, "seed", "The seed of the input").required(true))?;
-    let third = second.arg(option(alloc, "harts", "The number of harts, 1 to 64").required(true))?;
-    let fourth = third.arg(option(alloc, "trace", "The file that gets the trace of the run"))?;
-    Ok(fourth)
+// A command with the options that each command has.
+fn on_harts<'a>(alloc: Global, command: Command<'a>) -> Result<Command<'a>, AllocError> {
+    let harts = option(alloc, "harts", "The number of harts, 1 to 64").required(true);
+    let trace = option(alloc, "trace", "The file that gets the trace of the run");
+    command.arg(harts)?.arg(trace)
 }
 
 // An option that takes a value.
@@ -116,21 +133,32 @@ fn option<'a>(alloc: Global, name: &'a str, help: &'a str) -> Arg<'a> {
 fn demo_at(alloc: Global, name: &str, given: &ArgMatches<'_>) -> Result<Demo, DemoError>
     ensures { IfOk result (λ demo. (1 ≤ demo.harts) × (demo.harts ≤ 64)) }
 {
-    let (library, most) = library_of(name);
-    let count = number_at(given, "count", 0, u64::from(most))?;
-    let seed = number_at(given, "seed", 0, u64::MAX)?;
+    let work = work_at(name, given)?;
     let harts = number_at(given, "harts", 1, 64)?;
     let trace = match given.get_str("trace") {
         Some(path) => Some(String::from_str(alloc, path)?),
         None => None,
     };
     Ok(Demo {
-        library,
-        count: count as u32,
-        seed,
+        work,
         harts: harts as u8,
         trace,
     })
+}
+
+// What the command of this name runs, with its own options.
+fn work_at(name: &str, given: &ArgMatches<'_>) -> Result<Work, DemoError> {
+    if name == ARRAY {
+        return Ok(Work::Program);
+    }
+    let (library, most) = library_of(name);
+    let count = number_at(given, "count", 0, u64::from(most))?;
+    let seed = number_at(given, "seed", 0, u64::MAX)?;
+    Ok(Work::Library(Made {
+        library,
+        count: count as u32,
+        seed,
+    }))
 }
 
 // The library of this name, and its greatest count. A name that is none of the others is that of the empty tasks.

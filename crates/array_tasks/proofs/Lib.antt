@@ -1,0 +1,4 @@
+pub mod Merged
+pub mod Moved
+pub mod Bodies
+pub mod Reports

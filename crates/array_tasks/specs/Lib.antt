@@ -1,0 +1,4 @@
+pub mod Machines
+pub mod Merging
+pub mod Errors
+pub mod Texts
