@@ -1,5 +1,5 @@
-// One set of programs for the runtime, TBB and OpenMP; compile with -DPEER_LITHE, -DPEER_TBB or -DPEER_OMP. Prints the best
-// and the median of TRIES tries. `run` interleaves the peers.
+// One set of programs for the runtime, TBB and OpenMP; compile with -DPEER_LITHE, -DPEER_TBB or -DPEER_OMP. peers.rs has them for
+// rayon. Prints the best and the median of TRIES tries, and checks the results. `run` interleaves the peers.
 #include "compose.h"
 #include <algorithm>
 #include <vector>
@@ -38,6 +38,15 @@ template <class F> static void region(F f) {
     f();
 }
 
+// Runs f where joins and loops needn't enter the library's pool or region.
+template <class F> static void inside(F f) {
+#if defined PEER_OMP
+    region(f);
+#else
+    both(f, [] {});
+#endif
+}
+
 template <class F> static void turns(int n, F f) {
 #if defined PEER_LITHE
     lithe::parallel_for(0, n, f, 1);
@@ -61,7 +70,10 @@ static long fib(int n) {
 
 // An irregular tree: 0 to 3 children, by a generator; a node does 200 steps.
 static long tree(uint64_t seed, int depth) {
-    for (int i = 0; i < 200; i++) seed = seed * 6364136223846793005u + 1442695040888963407u;
+    for (int i = 0; i < 200; i++) {
+        seed = seed * 6364136223846793005u + 1442695040888963407u;
+        asm("" : "+r"(seed)); // keeps the compiler from making several steps one
+    }
     int children = depth == 0 ? 0 : 1 + static_cast<int>(seed >> 60) % 3;
     long size[3] = {0, 0, 0};
     auto child = [&](int k) { size[k] = tree(seed + static_cast<uint64_t>(k) * 977, depth - 1); };
@@ -98,6 +110,17 @@ template <class F> static void measure(const char *name, int tries, long times, 
     printf("%-34s %-7s %12.0f %12.0f ns\n", name, peer, each[0], each[each.size() / 2]);
 }
 
+static uint64_t sum() {
+    uint64_t total = 0;
+    for (auto &leaf : all.at) total += leaf.value;
+    return total;
+}
+
+static int wrong(const char *name, long found) {
+    printf("%s: wrong %s: %ld\n", peer, name, found);
+    return 1;
+}
+
 int main(int count, char **words) {
     int tries = count > 1 ? atoi(words[1]) : 11;
 #if defined PEER_TBB
@@ -106,11 +129,14 @@ int main(int count, char **words) {
 #endif
     all.grain = 64;
     region([&] { measure("join of two empty calls", tries, 10000, [] { both([] {}, [] {}); }); });
-    measure("composition, leaves of 64 steps", tries, 1000, [] { region([] { both([] { loops(0); }, [] { loops(1); }); }); });
+    auto compose = [] { both([] { loops(0); }, [] { loops(1); }); };
+    measure("composition, leaves of 64 steps", tries, 1000, [&] { region(compose); });
+    inside([&] { measure("composition, inside a region", tries, 1000, compose); });
+    if (sum() != expected(2 * tries * 1000, all.grain)) return wrong("leaves", static_cast<long>(sum()));
     measure("1,000 small turns", tries, 200, [] { turns(1000, [](int i) { leaf(&all, i % LEAVES); }); });
     long f = 0, t = 0;
     measure("fib(32), cut-off 12", tries, 1, [&] { region([&] { f = fib(32); }); });
     measure("irregular tree", tries, 1, [&] { region([&] { t = tree(7, 14); }); });
-    if (f != 2178309) return 1;
-    printf("%-34s %-7s %12ld nodes\n", "irregular tree", peer, t);
+    if (f != 2178309) return wrong("fib", f);
+    return t == 31385 ? 0 : wrong("tree", t);
 }
