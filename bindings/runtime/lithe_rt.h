@@ -82,11 +82,17 @@ void lithe_mutex_unlock(lithe_mutex *mutex);
 
 /* The number of harts, at least 1. */
 int lithe_count(void);
+/* How many harts other processes leave a processor to, from 1 to lithe_count(): an estimate, of the last 100 to 200 ms. It falls when
+ * two looks in a row see busy processes, and rises with the first look that doesn't; a look is a call at least 100 ms after the one
+ * before. With LITHE_WATCH=0 it is lithe_count(). The runtime calls as many harts as otherwise, whatever this returns. */
+int lithe_processors(void);
 /* The calling hart's number, from 0; -1 if the thread isn't a hart. */
 int lithe_number(void);
 
-/* Writes one line for each hart and each live site to the file descriptor: who is in which site, who sleeps. It may be
- * called at any time, also from a debugger; while harts move, lines need not fit together. */
+/* Writes one line for each hart and each live site to the file descriptor: who is in which site, who sleeps; the last line has
+ * the counts. It may be called at any time, also from a signal's handler or a debugger: it takes no lock and allocates
+ * nothing. While harts move, lines need not fit together. With LITHE_WHERE=N the signal N calls it for standard error. HANGS.md
+ * walks through an output. */
 void lithe_where(int file);
 
 /* What the runtime counts; LITHE_STATS=1 prints them at exit. */

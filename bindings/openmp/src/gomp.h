@@ -280,6 +280,11 @@ void run_one(team *t, int num);
 /* Runs fn(data) by a team; returns its size. */
 unsigned run_region(void (*fn)(void *), void *data, unsigned wanted, const plan *first, group *of_reductions);
 int team_size(context *c, unsigned wanted, bool *is_exact);
+/* The size for a team of at most n, so that the harts in use don't exceed lithe_processors. */
+int size_under_load(int n);
+/* Not in a region, nor in a body of lithe_rt. Why teams have the same size here each time: programs keep threadprivate variables from
+ * region to region, and arrays with a part for each thread. */
+static inline bool is_outside(const context *c) { return c->is_external && c->of->level == 0; }
 bool is_asked_for(const context *c); /* c->nthreads, as a number that a team has in any case */
 extern _Atomic long regions, shortfalls, overflows;
 

@@ -51,7 +51,8 @@ static int promise_now(context *c, int most) {
         wait_for_coming(lithe_current());
         if (lithe_callable(lithe_current(), 1) == 0) return 1;
     }
-    return reserve(c, most);
+    if (!is_outside(c)) most = size_under_load(most);
+    return most == 1 ? 1 : reserve(c, most);
 }
 
 API int omp_get_max_threads(void) {

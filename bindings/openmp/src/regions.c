@@ -10,21 +10,26 @@ _Atomic long regions, shortfalls;
 /* omp_set_num_threads, or more members than harts by OMP_NUM_THREADS for an outermost region. */
 bool is_asked_for(const context *c) {
     if (c->dynamic) return false;
-    bool is_outermost = c->is_external && c->of->level == 0;
-    return c->is_chosen || (is_outermost && set.is_given && c->nthreads > set.procs);
+    return c->is_chosen || (is_outside(c) && set.is_given && c->nthreads > set.procs);
+}
+
+int size_under_load(int n) {
+    int processors = lithe_processors(), harts = lithe_count();
+    if (processors == harts) return n;
+    int others = lithe_number() < 0 ? 0 : harts - 1 - lithe_callable(lithe_current(), 1);
+    int size = processors > others ? processors - others : 1;
+    return size < n ? size : n;
 }
 
 /* `is_exact`: what the program was promised or asked for. Otherwise the team has the harts that come. */
 int team_size(context *c, unsigned wanted, bool *is_exact) {
     *is_exact = true;
     if (wanted == 1 || c->of->active_level >= c->max_active) return 1;
-    if (wanted > 1) {
-        *is_exact = !c->dynamic;
-        return wanted > NO_LIMIT ? NO_LIMIT : (int)wanted;
-    }
-    if (c->promise) return c->promise;
-    *is_exact = is_asked_for(c);
-    return c->nthreads;
+    if (wanted == 0 && c->promise) return c->promise;
+    int n = wanted == 0 ? c->nthreads : wanted > NO_LIMIT ? NO_LIMIT : (int)wanted;
+    *is_exact = wanted == 0 ? is_asked_for(c) : !c->dynamic;
+    if (*is_exact || (is_outside(c) && !c->dynamic)) return n;
+    return size_under_load(n);
 }
 
 /* Takes up to n - 1 threads of the contention group. Returns the size of the team. */
@@ -57,7 +62,7 @@ static void set_up(team *t, context *c, dock *d, int n, const region *r) {
     t->n = n;
     t->level = c->of->level + 1;
     t->active_level = c->of->active_level + (n > 1);
-    t->is_outermost = c->is_external && c->of->level == 0;
+    t->is_outermost = is_outside(c);
     t->process = forks;
     t->dock = d;
     t->outer = c;
@@ -79,7 +84,7 @@ static void set_up(team *t, context *c, dock *d, int n, const region *r) {
 /* Sets up a team, and starts all members but number 0. Null without memory for it. */
 static team *start_team(context *c, dock *d, int n, bool is_exact, const region *r) {
     uint64_t harts = 0;
-    bool is_outermost = c->is_external && c->of->level == 0;
+    bool is_outermost = is_outside(c);
     team *t = d ? &d->region : aligned_alloc(64, sizeof *t);
     if (!t) return NULL;
     if (!d) memset(t, 0, sizeof *t);

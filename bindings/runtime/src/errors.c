@@ -1,7 +1,9 @@
 /* What goes wrong, and a look at who is where. */
 #include "rt.h"
-#include <stdarg.h>
+#include <errno.h>
+#include <signal.h>
 #include <stdio.h>
+#include <stdlib.h>
 #include <unistd.h>
 
 /* The end of the levels, or a refusal by the board that the rules of this library exclude. */
@@ -23,43 +25,106 @@ void child_returned(void) {
     _exit(70);
 }
 
-static void print(int file, const char *format, ...) {
-    char line[160];
-    va_list words;
-    va_start(words, format);
-    int n = vsnprintf(line, sizeof line, format, words);
-    va_end(words);
-    size_t size = n < 0 ? 0 : n < (int)sizeof line ? (size_t)n : sizeof line - 1;
-    for (size_t done = 0; done < size;) {
-        ssize_t some = write(file, line + done, size - done);
+/* A line of output. Why not printf: it may not be called in a signal's handler. */
+typedef struct line {
+    char text[400];
+    size_t size;
+} line;
+
+static void put(line *l, const char *words) {
+    for (; *words && l->size < sizeof l->text - 1; words++) l->text[l->size++] = *words;
+}
+
+static void put_number(line *l, uint64_t n, unsigned base) {
+    char digits[24];
+    char *at = digits + sizeof digits - 1;
+    *at = 0;
+    do *--at = "0123456789abcdef"[n % base];
+    while (n /= base);
+    put(l, at);
+}
+
+static void put_count(line *l, const char *name, long n) {
+    put(l, name);
+    if (n < 0) put(l, "-");
+    put_number(l, (uint64_t)(n < 0 ? -n : n), 10);
+}
+
+static void print(int file, line *l) {
+    l->text[l->size++] = '\n';
+    for (size_t done = 0; done < l->size;) {
+        ssize_t some = write(file, l->text + done, l->size - done);
         if (some <= 0) return;
         done += (size_t)some;
     }
 }
 
 static void print_hart(int file, hart *h) {
+    line l = {.size = 0};
     uint16_t site = atomic_load(&h->in_site);
-    const char *does = "works";
-    if (atomic_load(&all.place[site].idle) & bit(h->number)) does = "is idle";
-    if (site == 0 && atomic_load(&h->state) == OUTSIDE) does = "is held by a thread outside";
-    const char *thread = atomic_load(&h->made) ? "" : ", without a worker";
-    const char *sleeps = atomic_load(&h->inside.asleep) || (site == 0 && atomic_load(&h->at_base.asleep)) ? ", asleep" : "";
-    print(file, "hart %d %s in site %u%s%s\n", h->number, does, site, sleeps, thread);
+    int tid = atomic_load(&h->tid), outside = site == 0 && atomic_load(&h->state) == OUTSIDE;
+    int idle = (atomic_load(&all.place[site].idle) & bit(h->number)) != 0;
+    put_count(&l, "hart ", h->number);
+    put(&l, outside ? " is held by a thread outside" : idle ? " is idle" : " works");
+    put_count(&l, " in site ", site);
+    if (tid) put_count(&l, ", thread ", tid);
+    if (atomic_load(&h->inside.asleep) || (site == 0 && atomic_load(&h->at_base.asleep))) put(&l, ", asleep");
+    if (!atomic_load(&h->made)) put(&l, ", without a worker");
+    print(file, &l);
 }
 
 static void print_site(int file, int site, place *p) {
-    print(file, "site %d %s: parent %u, home %u, wishes %d, arrived %d, left %d, idle %llx%s\n", site, atomic_load(&p->name),
-          atomic_load(&p->parent), atomic_load(&p->home), atomic_load(&p->tokens), atomic_load(&p->arrived),
-          atomic_load(&p->left), (unsigned long long)atomic_load(&p->idle),
-          atomic_load(&p->home_waits) ? ", the home waits for it to be empty" : "");
+    line l = {.size = 0};
+    put_count(&l, "site ", site);
+    put(&l, " ");
+    put(&l, atomic_load(&p->name));
+    put_count(&l, ": parent ", atomic_load(&p->parent));
+    put_count(&l, ", home ", atomic_load(&p->home));
+    put_count(&l, ", wishes ", atomic_load(&p->tokens));
+    put_count(&l, ", arrived ", atomic_load(&p->arrived));
+    put_count(&l, ", left ", atomic_load(&p->left));
+    put(&l, ", idle ");
+    put_number(&l, atomic_load(&p->idle), 16);
+    if (atomic_load(&p->home_waits)) put(&l, ", the home waits for it to be empty");
+    print(file, &l);
+}
+
+static void print_counts(int file) {
+    line l = {.size = 0};
+    put_count(&l, "harts ", all.harts);
+    for (int k = 0; k < LITHE_COUNTERS; k++) {
+        put(&l, ", ");
+        put(&l, lithe_counter_name(k));
+        put_count(&l, " ", lithe_count_of(k));
+    }
+    print(file, &l);
 }
 
 void lithe_where(int file) {
+    line none = {.size = 0};
     if (!all.hart) {
-        print(file, "no harts\n");
+        put(&none, "no harts");
+        print(file, &none);
         return;
     }
     for (int h = 0; h < all.harts; h++) print_hart(file, &all.hart[h]);
     for (int s = 1; s <= all.harts * LITHE_LEVELS; s++)
         if (atomic_load(&all.place[s].live)) print_site(file, s, &all.place[s]);
+    print_counts(file);
+}
+
+static void on_signal(int signal) {
+    (void)signal;
+    int kept = errno;
+    lithe_where(2);
+    errno = kept;
+}
+
+/* Why only the default: the program's own handler stays. */
+void start_where(void) {
+    const char *text = getenv("LITHE_WHERE");
+    int number = text ? atoi(text) : 0;
+    struct sigaction old, new = {.sa_handler = on_signal, .sa_flags = SA_RESTART};
+    if (number <= 0 || sigaction(number, NULL, &old) != 0 || old.sa_handler != SIG_DFL) return;
+    sigaction(number, &new, NULL);
 }

@@ -3,8 +3,11 @@
 #include <pthread.h>
 #include <sched.h>
 #include <signal.h>
+#include <stdio.h>
 #include <stdlib.h>
 #include <string.h>
+#include <sys/syscall.h>
+#include <unistd.h>
 
 process all;
 __thread hart *me __attribute__((tls_model("initial-exec")));
@@ -16,6 +19,7 @@ static pthread_mutex_t making = PTHREAD_MUTEX_INITIALIZER;
 static pthread_key_t leaver;
 static _Atomic int made;
 static int has_key;
+static __thread int tid __attribute__((tls_model("initial-exec")));
 
 enum { RETRY_THREADS_NS = 10000000 };
 
@@ -85,9 +89,11 @@ static void forget_harts(void) {
 static void in_child(void) {
     making = (pthread_mutex_t)PTHREAD_MUTEX_INITIALIZER;
     me = NULL;
+    tid = 0;
     forget_stays();
     forget_harts();
     stop_trace_in_child();
+    forget_load();
     atomic_store(&made, 0);
 }
 
@@ -96,6 +102,8 @@ static void first_time(void) {
     has_key = pthread_key_create(&leaver, leave_for_good) == 0;
     pthread_atfork(NULL, NULL, in_child);
     start_stats();
+    start_where();
+    start_load();
     start_trace();
 }
 
@@ -120,8 +128,14 @@ int lithe_number(void) { return me ? me->number : -1; }
 lithe_sched *lithe_current(void) { return me ? me->in : NULL; }
 int lithe_idle_at_base(void) { return make_all() ? __builtin_popcountll(atomic_load(&all.place[0].idle)) : 0; }
 
+int own_tid(void) {
+    if (UNLIKELY(!tid)) tid = (int)syscall(SYS_gettid);
+    return tid;
+}
+
 void become(hart *h) {
     me = h;
+    atomic_store_explicit(&h->tid, own_tid(), memory_order_relaxed);
     h->in = &all.base;
 }
 
@@ -147,6 +161,9 @@ static void hand_back(hart **at) {
 
 static void *work(void *arg) {
     ENDS_BY(hand_back) hart *h = arg;
+    char name[16];
+    snprintf(name, sizeof name, "lithe %d", h->number);
+    pthread_setname_np(pthread_self(), name);
     for (;;) {
         uint64_t m = receive(&h->at_base);
         become(h);

@@ -3,7 +3,6 @@
 #include <fcntl.h>
 #include <stdio.h>
 #include <string.h>
-#include <sys/syscall.h>
 #include <unistd.h>
 
 /* The hart that a thread from outside left with a site open, and the number of its stay, to know it again. */
@@ -100,7 +99,6 @@ int lithe_begin(void) {
     if (!take_seat()) return 0;
     me->external = 1;
     me->depth = 1;
-    if (all.sticky) atomic_store(&me->tid, (int)syscall(SYS_gettid));
     atomic_store(&me->state, INSIDE);
     my_stay = atomic_fetch_add(&stays, 1) + 1;
     atomic_store(&stay_of[me->number], my_stay);

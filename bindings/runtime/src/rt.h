@@ -42,7 +42,7 @@ typedef struct hart {
     void *spare_pool; /* memory for the next pool that the hart opens */
     int number, external, depth;
     _Atomic int made; /* a worker thread waits at `at_base` */
-    _Atomic int tid, state;
+    _Atomic int tid, state; /* the thread that is the hart, or was last */
     _Atomic uint16_t in_site; /* for lithe_where */
     _Atomic uint16_t loaf_site;
     lithe_sched *_Atomic called_from; /* who called it took it out of this scheduler's idle set */
@@ -86,6 +86,7 @@ int make_all(void); /* 0: no memory */
 /* Starts the worker of a hart that was taken out of the base's idle set. 0: no thread could be started. */
 int start_worker(hart *h);
 void become(hart *h);
+int own_tid(void);
 /* The hart, whose thread is done with it, goes into the base's idle set. */
 void rest_at_base(hart *h);
 /* Has leave_for_good called when the calling thread ends. */
@@ -117,9 +118,14 @@ void wake_home(place *p);
 void count(lithe_counter counter);
 void start_stats(void);
 
+/* load.c */
+void start_load(void);
+void forget_load(void);
+
 /* errors.c */
 void refused(const char *call, uint16_t site, uint32_t status);
 _Noreturn void child_returned(void);
+void start_where(void);
 
 /* trace.c */
 extern _Atomic int tracing;
